@@ -1,0 +1,82 @@
+-- The writer over given tables: a tree's indices, rows 5 and 6, the bytes, and what the work words and the output hold for every input.
+use Prim.Native.Nat.{ℕ, zero, suc, _+_, _*_, _-_}
+use mathlib.Core.Bool.{Bool, _&&_}
+use mathlib.Core.List.{List, [], _∷_}
+use lib.ListN.{length, getD}
+use lib.Dec.{leb, eqb}
+use Rattle.format.specs.Test.{if_then_else_}
+use Rattle.format.specs.Verdict.{Verdict, _andThen_, rule, each, contents}
+use Rattle.format.specs.Word.{put}
+use Rattle.format.specs.Tree.{Raw}
+use Rattle.format.specs.Tables.{partCount, indexedBelow, ownTables}
+use Rattle.format.specs.Write.{write, workWords}
+use Rattle.format.specs.WordList.{wordOf, rawFrom, listCount, listSized, listRules}
+
+-- the first of the j numbers from i on that passes a test, else i + j
+unfoldable pub find : (ℕ → Bool) → ℕ → ℕ → ℕ
+find t zero i = i
+find t (suc j) i = if t i then i else find t j (i + 1)
+
+module _ (parts symbols : List ℕ) where
+  abbrev pub isPart : ℕ → ℕ → ℕ → ℕ → Bool
+  isPart f a c i = eqb (getD parts (3 * i) 0) f && eqb (getD parts (3 * i + 1) 0) a && eqb (getD parts (3 * i + 2) 0) c
+
+  -- "A part's index is its first place before those two, a symbol's its first place."
+  abbrev pub partIndex : ℕ → ℕ → ℕ → ℕ
+  partIndex f a c = find (isPart f a c) (partCount parts symbols - 2) 0
+
+  abbrev pub symbolIndex : ℕ → ℕ
+  symbolIndex y = find (λ i. eqb (getD symbols i 0) y) (length symbols) 0
+
+  module _ (l : List ℕ) where
+    -- tree n with its indices; the root's are "the last two of the table"
+    abbrev pub rawOf : ℕ → Raw
+    rawOf n =
+        let w : ℕ → ℕ = wordOf l n in
+        if eqb n 0 then rawFrom (partCount parts symbols - 2) (partCount parts symbols - 1) 0 w else
+        rawFrom (partIndex (w 3) (w 4) (w 5)) (partIndex (w 8) (w 9) (w 10)) (symbolIndex (w 1)) w
+
+    -- trees n to n + j - 1
+    unfoldable pub raws : ℕ → ℕ → List Raw
+    raws zero n = []
+    raws (suc j) n = rawOf n ∷ raws j (n + 1)
+
+    -- row 5: "part or symbol absent from its table, or the last two parts are not the root's"
+    abbrev pub present : ℕ → Bool
+    present n =
+        let w : ℕ → ℕ = wordOf l n in
+        if eqb n 0 then isPart (w 3) (w 4) (w 5) (partCount parts symbols - 2) && isPart (w 8) (w 9) (w 10) (partCount parts symbols - 1) else
+        indexedBelow (partCount parts symbols) (length symbols) (rawOf n)
+
+    abbrev pub rowFive : ℕ → Verdict
+    rowFive n = rule (present n) 5 n
+
+    -- "Writer: 1 to 6 in turn": rows 1 to 5
+    unfoldable pub listVerdict : Verdict
+    listVerdict =
+        rule (listSized l && ownTables parts symbols .sized) 1 0 andThen
+        listRules l andThen
+        each rowFive (listCount l)
+
+    -- the trees with their indices, and the buffer made of them
+    abbrev pub trees : List Raw
+    trees = raws (listCount l) 0
+
+    abbrev pub packed : List ℕ
+    packed = write trees
+
+    module _ (work out : List ℕ) where
+      -- row 6, first for the work words, "one more than the trees"
+      abbrev pub workVerdict : Verdict
+      workVerdict = listVerdict andThen rule (leb (listCount l + 1) (length work)) 6 0
+
+      -- then for the output
+      abbrev pub writerVerdict : Verdict
+      writerVerdict = workVerdict andThen rule (leb (length packed) (length out)) 6 0
+
+      -- "they are filled once checks 1 to 5 pass and they suffice, also if the output then proves short"
+      abbrev pub workAfter : List ℕ
+      workAfter = contents workVerdict work (put work 0 (workWords trees))
+
+      abbrev pub outAfter : List ℕ
+      outAfter = contents writerVerdict out (put out 0 packed)
