@@ -38,10 +38,10 @@ module _ (b : List ℕ) (small : AreBytes b) where
   word-below : (p : ℕ) → wordAt b p < 4294967296
   unfolding wordAt
   word-below p =
-      let x = small p in
-      let y = small (p + 1) in
-      let z = small (p + 2) in
-      let w = small (p + 3) in
+      let x = small .below p in
+      let y = small .below (p + 1) in
+      let z = small .below (p + 2) in
+      let w = small .below (p + 3) in
       omega arith
 
   first-fits : (x w : ℕ) → w < 4294967296 → length (spanBytes x (span₁ w)) ≡ 4
@@ -109,13 +109,13 @@ module _ (b : List ℕ) (small : AreBytes b) where
           → leb (p + 4) (length b) ≡ x₅ → NotShorter p (symbolAt b p)
       go false x₂ x₃ x₄ x₅ e₁ e₂ e₃ e₄ e₅ = simp e₁ tt
       go true true x₃ x₄ x₅ e₁ e₂ e₃ e₄ e₅ =
-          let y = small p in
+          let y = small .below p in
           let l = one-byte (byteAt b p % 2) (byteAt b p / 4) (omega arith) in
           simp (e₁, e₂) (omega arith)
       go true false false x₄ x₅ e₁ e₂ e₃ e₄ e₅ = simp (e₁, e₂, e₃) tt
       go true false true true x₅ e₁ e₂ e₃ e₄ e₅ =
-          let y = small p in
-          let z = small (p + 1) in
+          let y = small .below p in
+          let z = small .below (p + 1) in
           let l = two-bytes (byteAt b p % 2) (byteAt b p / 4 + 64 * (byteAt b (p + 1) / 2)) (omega arith) in
           simp (e₁, e₂, e₃, e₄) (omega arith)
       go true false true false false e₁ e₂ e₃ e₄ e₅ = simp (e₁, e₂, e₃, e₄, e₅) tt
