@@ -1,0 +1,88 @@
+-- The lister's text: a header and a line a tree, or one line that says the refusal.
+use Prim.Native.Nat.{ℕ, zero, suc, _+_, _/_, _%_}
+use mathlib.Core.List.{List, [], _∷_, _++_}
+use lib.ListN.{length, getD}
+use lib.Dec.{ltb, eqb}
+use Rattle.format.specs.Test.{if_then_else_}
+use Rattle.format.specs.Verdict.{Verdict, passed, refused}
+use Rattle.format.specs.Laws.{around}
+use Rattle.format.specs.Check.{listing, placeOf}
+use Rattle.format.specs.Tables.{partCount}
+use Rattle.format.specs.Buffer.{wordShape, ownReader}
+use Rattle.format.specs.Bundle.{Bundle, BundleRead, bundle, badBundle, bundleAt, checkOf}
+
+-- a number in decimal digits; f bounds their number
+unfoldable pub digitsFor : ℕ → ℕ → List ℕ
+digitsFor zero n = []
+digitsFor (suc f) n = (if ltb n 10 then [] else digitsFor f (n / 10)) ++ ((48 + n % 10) ∷ [])
+
+abbrev pub decimal : ℕ → List ℕ
+decimal n = digitsFor (n + 1) n
+
+-- a space; the end of a line
+abbrev pub gap : List ℕ
+gap = 32 ∷ []
+
+abbrev pub newline : List ℕ
+newline = 10 ∷ []
+
+-- "trees ", " bytes ", " parts ", " symbols "
+abbrev pub treesText : List ℕ
+treesText = 116 ∷ 114 ∷ 101 ∷ 101 ∷ 115 ∷ 32 ∷ []
+
+abbrev pub bytesText : List ℕ
+bytesText = 32 ∷ 98 ∷ 121 ∷ 116 ∷ 101 ∷ 115 ∷ 32 ∷ []
+
+abbrev pub partsText : List ℕ
+partsText = 32 ∷ 112 ∷ 97 ∷ 114 ∷ 116 ∷ 115 ∷ 32 ∷ []
+
+abbrev pub symbolsText : List ℕ
+symbolsText = 32 ∷ 115 ∷ 121 ∷ 109 ∷ 98 ∷ 111 ∷ 108 ∷ 115 ∷ 32 ∷ []
+
+-- "punct", "ident", "literal", "subtree", by word 0 of a tree
+abbrev pub sortText : ℕ → List ℕ
+sortText x =
+    if eqb x 0 then 112 ∷ 117 ∷ 110 ∷ 99 ∷ 116 ∷ [] else
+    (if eqb x 1 then 105 ∷ 100 ∷ 101 ∷ 110 ∷ 116 ∷ [] else
+    (if eqb x 2 then 108 ∷ 105 ∷ 116 ∷ 101 ∷ 114 ∷ 97 ∷ 108 ∷ [] else
+    115 ∷ 117 ∷ 98 ∷ 116 ∷ 114 ∷ 101 ∷ 101 ∷ []))
+
+-- "refused ", " at "
+abbrev pub refusedText : List ℕ
+refusedText = 114 ∷ 101 ∷ 102 ∷ 117 ∷ 115 ∷ 101 ∷ 100 ∷ 32 ∷ []
+
+abbrev pub atText : List ℕ
+atText = 32 ∷ 97 ∷ 116 ∷ 32 ∷ []
+
+-- "A refusal prints one line, as `refused 7 at 0`."
+abbrev pub refusalLine : ℕ → ℕ → List ℕ
+refusalLine r n = refusedText ++ decimal r ++ atText ++ decimal n ++ newline
+
+module _ (b : List ℕ) (k : ℕ) (parts symbols : List ℕ) where
+  -- "Header"
+  abbrev pub header : List ℕ
+  header = treesText ++ decimal k ++ bytesText ++ decimal (length b) ++ partsText ++ decimal (partCount parts symbols) ++ symbolsText ++ decimal (length symbols) ++ newline
+
+  -- "the root counting 1": the subtrees around tree n, and one more
+  abbrev pub depthOf : ℕ → ℕ
+  depthOf n = around wordShape (listing wordShape (ownReader b k parts symbols)) n n + 1
+
+  -- "then tree number, first byte, depth, sort"
+  abbrev pub treeLine : ℕ → List ℕ
+  treeLine n =
+      decimal n ++ gap ++ decimal (placeOf wordShape (ownReader b k parts symbols) n) ++ gap ++ decimal (depthOf n) ++ gap ++
+      sortText (getD (listing wordShape (ownReader b k parts symbols) .tree n) 0 0) ++ newline
+
+  -- the lines of the j trees from tree n on
+  unfoldable pub treeLines : ℕ → ℕ → List ℕ
+  treeLines zero n = []
+  treeLines (suc j) n = treeLine n ++ treeLines j (n + 1)
+
+abbrev pub bundleText : BundleRead → Verdict → List ℕ
+bundleText r (refused x n) = refusalLine x n
+bundleText (bundle B) passed = header (B .bytes) (B .trees) (B .parts) (B .symbols) ++ treeLines (B .bytes) (B .trees) (B .parts) (B .symbols) (B .trees) 0
+bundleText badBundle passed = refusalLine 1 0
+
+-- "The lister takes 65,536 bytes of standard input (more is 1)."
+abbrev pub listerText : List ℕ → List ℕ
+listerText b = if ltb 65536 (length b) then refusalLine 1 0 else bundleText (bundleAt b) (checkOf (bundleAt b))
