@@ -1,6 +1,6 @@
 -- The bundle: a stored buffer with its tables and tree count in one run of bytes, and the check's number that a host receives.
 use Prim.Native.Nat.{ℕ, zero, suc, _+_}
-use mathlib.Core.Bool.{Bool, _&&_}
+use mathlib.Core.Bool.{Bool, _&&_, _||_}
 use mathlib.Core.List.{List, [], _∷_, _++_}
 use lib.ListN.{length, drop}
 use lib.Dec.{leb, eqb}
@@ -24,24 +24,37 @@ module _ (b : List ℕ) where
   abbrev pub marked : ℕ → ℕ → ℕ → Bool
   marked x y p = leb (p + 2) (length b) && eqb (byteAt b p) x && eqb (byteAt b (p + 1)) y
 
+  -- "`SP` and 12 bytes for one part, `SY` and 4 for one symbol": whether one stands whole at place p, its words, and its bytes
+  abbrev pub isPartRecord : ℕ → Bool
+  isPartRecord p = marked 0x53 0x50 p && leb (p + 14) (length b)
+
+  abbrev pub isSymbolRecord : ℕ → Bool
+  isSymbolRecord p = marked 0x53 0x59 p && leb (p + 6) (length b)
+
+  abbrev pub partAt : ℕ → List ℕ
+  partAt p = if isPartRecord p then wordAt b (p + 2) ∷ wordAt b (p + 6) ∷ wordAt b (p + 10) ∷ [] else []
+
+  abbrev pub symbolAt : ℕ → List ℕ
+  symbolAt p = if isSymbolRecord p then wordAt b (p + 2) ∷ [] else []
+
+  abbrev pub behind : ℕ → ℕ
+  behind p = if isPartRecord p then p + 14 else p + 6
+
   -- "last `BT`, tree count, byte count, bytes"; "an early end or bytes after the last are bad"
+  abbrev pub isLastRecord : ℕ → Bool
+  isLastRecord p = marked 0x42 0x54 p && leb (p + 10) (length b) && eqb (p + 10 + wordAt b (p + 6)) (length b)
+
   abbrev pub lastRecord : List ℕ → List ℕ → ℕ → BundleRead
   lastRecord parts symbols p =
-      if leb (p + 10) (length b) && eqb (p + 10 + wordAt b (p + 6)) (length b)
-      then bundle (record { parts = parts; symbols = symbols; trees = wordAt b (p + 2); bytes = drop (p + 10) b })
-      else badBundle
+      if isLastRecord p then bundle (record { parts = parts; symbols = symbols; trees = wordAt b (p + 2); bytes = drop (p + 10) b }) else badBundle
 
-  -- the records from place p on, after these parts and symbols: "`SP` and 12 bytes for one part, `SY` and 4 for one symbol, in any order"; f bounds the records
+  -- the records from place p on, behind these parts and symbols, "in any order"; f bounds how many
   unfoldable pub records : ℕ → List ℕ → List ℕ → ℕ → BundleRead
   records zero parts symbols p = badBundle
   records (suc f) parts symbols p =
-      if marked 0x53 0x50 p then
-      (if leb (p + 14) (length b) then records f (parts ++ (wordAt b (p + 2) ∷ wordAt b (p + 6) ∷ wordAt b (p + 10) ∷ [])) symbols (p + 14) else badBundle)
-      else
-      (if marked 0x53 0x59 p then
-      (if leb (p + 6) (length b) then records f parts (symbols ++ (wordAt b (p + 2) ∷ [])) (p + 6) else badBundle)
-      else
-      (if marked 0x42 0x54 p then lastRecord parts symbols p else badBundle))
+      if isPartRecord p || isSymbolRecord p
+      then records f (parts ++ partAt p) (symbols ++ symbolAt p) (behind p)
+      else lastRecord parts symbols p
 
   abbrev pub bundleAt : BundleRead
   bundleAt = records (length b) [] [] 0
