@@ -39,10 +39,10 @@ module _ (out : List ℕ) (at : ℕ) where
       let c = both (rule (ltb (s .index) 268435456) 8 0) v₃ (b .1) in
       let x = leb-true extra 3 (rule-passed (leb extra 3) 2 0 (a .0)) in
       let k : Packable s =
-          record {
-            index = ltb-true (s .index) 268435456 (rule-passed (ltb (s .index) 268435456) 8 0 (c .0));
-            range = leb-true (s .start + s .len) 4294967295 (rule-passed (spanFits s) 2 0 (b .0));
-          } in
+      record {
+        index = ltb-true (s .index) 268435456 (rule-passed (ltb (s .index) 268435456) 8 0 (c .0));
+        range = leb-true (s .start + s .len) 4294967295 (rule-passed (spanFits s) 2 0 (b .0));
+      } in
       let r = leb-true (at + length (spanForm heavy extra s)) (length out) (rule-passed (leb (at + length (spanForm heavy extra s)) (length out)) 6 0 (c .1)) in
       rw ok (form-back (put out at (spanForm heavy extra s)) heavy extra s (omega arith) k (put-holds out at (spanForm heavy extra s) r))
 
