@@ -1,46 +1,52 @@
--- A lent run with bytes put into it: they stand there, and nothing else has changed.
-use Prim.Native.Nat.{ℕ, zero, suc, _+_, _-_, _≤_, _<_}
-use mathlib.Core.Path.{_≡_, refl, sym, ap, _∙_, subst}
-use mathlib.Core.List.{List, [], _∷_, _++_, append-assoc}
+-- A list after `put`: its length, what was put, and what stands before and behind.
+use Prim.Native.Nat.{ℕ, _+_, _-_, _≤_, _<_}
+use mathlib.Core.Path.{_≡_, sym, ap, _∙_}
+use mathlib.Core.List.{List, _++_}
 use native.Mathlib.Omega.{arith}
-use lib.ListN.{length, take, drop, getD, length-append, length-take, length-drop, List·getD-append}
-use lib.Seq.{getD-append-add, getD-take, getD-drop}
-use Rattle.format.specs.Word.{byteAt, put}
-use Rattle.format.proofs.Holds.{Holds, holds-first, holds-rest}
+use lib.ListN.{length, take, drop, getD, length-append, length-drop, List·getD-append}
+use lib.Seq.{length-take-le, getD-take, getD-drop, getD-append-add}
+use Rattle.format.specs.Word.{put}
+use Rattle.format.proofs.Holds.{Holds}
 
 module _ (b : List ℕ) (at : ℕ) (vs : List ℕ) (h : at + length vs ≤ length b) where
-  front : length (take at b) ≡ at
-  front = simp length-take (omega arith)
-
   pub put-length : length (put b at vs) ≡ length b
   unfolding put
-  put-length = simp (length-append, length-take, length-drop) (omega arith)
+  put-length =
+      let l = length-take-le at b (omega arith) in
+      simp (length-append, length-drop, l) (omega arith)
 
-  pub put-holds : Holds (put b at vs) at vs
-  unfolding put
-  put-holds =
-      let c : List ℕ = take at b ++ (vs ++ drop (at + length vs) b) in
-      let e : take at b ++ vs ++ drop (at + length vs) b ≡ c = append-assoc (take at b) vs (drop (at + length vs) b) in
-      let whole : Holds c 0 c = record { fits = omega arith; same = λ i l. ap (byteAt c) (omega arith) } in
-      let rest : Holds c at (vs ++ drop (at + length vs) b) = subst (λ n. Holds c n (vs ++ drop (at + length vs) b)) (zero-front) (holds-rest c (take at b) (vs ++ drop (at + length vs) b) 0 whole) in
-      rw e (holds-first c vs (drop (at + length vs) b) at rest)
-    where
-      zero-front : 0 + length (take at b) ≡ at
-      zero-front = let f = front in omega arith
+  front : length (take at b ++ vs) ≡ at + length vs
+  front = length-append (take at b) vs ∙ ap (λ n. n + length vs) (length-take-le at b (omega arith))
 
-  pub put-before : (i : ℕ) → i < at → byteAt (put b at vs) i ≡ byteAt b i
+  pub put-before : (i : ℕ) → i < at → getD (put b at vs) i 0 ≡ getD b i 0
   unfolding put
   put-before i l =
       let f = front in
-      rw (append-assoc (take at b) vs (drop (at + length vs) b)) (List·getD-append (take at b) (vs ++ drop (at + length vs) b) 0 i (omega arith) ∙ getD-take at b i 0 l)
+      let g = length-take-le at b (omega arith) in
+      List·getD-append (take at b ++ vs) (drop (at + length vs) b) 0 i (omega arith) ∙ List·getD-append (take at b) vs 0 i (omega arith) ∙ getD-take at b i 0 l
 
-  pub put-behind : (i : ℕ) → at + length vs ≤ i → byteAt (put b at vs) i ≡ byteAt b i
+  pub put-at : (i : ℕ) → i < length vs → getD (put b at vs) (at + i) 0 ≡ getD vs i 0
   unfolding put
-  put-behind i l =
-      let j : ℕ = i - (at + length vs) in
-      let xs : List ℕ = take at b ++ vs in
+  put-at i l =
       let f = front in
-      let n : length xs ≡ at + length vs = length-append (take at b) vs ∙ ap (λ x. x + length vs) f in
-      let e : i ≡ length xs + j = omega arith in
+      let g = length-take-le at b (omega arith) in
+      List·getD-append (take at b ++ vs) (drop (at + length vs) b) 0 (at + i) (omega arith) ∙
+      ap (λ n. getD (take at b ++ vs) (n + i) 0) (sym g) ∙
+      getD-append-add (take at b) vs i 0
+
+  pub put-after : (i : ℕ) → at + length vs ≤ i → getD (put b at vs) i 0 ≡ getD b i 0
+  unfolding put
+  put-after i l =
+      let f = front in
+      let j : ℕ = i - (at + length vs) in
+      let e : length (take at b ++ vs) + j ≡ i = omega arith in
       let g : at + length vs + j ≡ i = omega arith in
-      ap (byteAt (xs ++ drop (at + length vs) b)) e ∙ getD-append-add xs (drop (at + length vs) b) j 0 ∙ getD-drop (at + length vs) b j 0 ∙ ap (byteAt b) g
+      ap (λ n. getD (put b at vs) n 0) (sym e) ∙
+      getD-append-add (take at b ++ vs) (drop (at + length vs) b) j 0 ∙
+      getD-drop (at + length vs) b j 0 ∙
+      ap (λ n. getD b n 0) g
+
+  pub put-holds : Holds (put b at vs) at vs
+  put-holds =
+      let e = put-length in
+      record { fits = omega arith; same = put-at }
