@@ -16,7 +16,7 @@ use Rattle.format.specs.Plain.{Listing, endOf, sub}
 use Rattle.format.specs.Laws.{around, Nested}
 use Rattle.format.specs.Check.{nextOf, kidsOf, treeOf, placeOf, reading, listing, stored, Admitted}
 use Rattle.format.specs.Tree.{Raw, punct, ident, literal, subtree, treeAt}
-use Rattle.format.specs.Tables.{Tables, partIn, symbolIn, indexedBelow, rowEight, tablesSized, spanWords, treeWords, ownTables}
+use Rattle.format.specs.Tables.{rules, Tables, partIn, symbolIn, indexedBelow, rowEight, tablesSized, spanWords, treeWords, ownTables}
 use Rattle.format.specs.Buffer.{judge, wordShape, reader, ownReader}
 use Rattle.format.specs.Root.{RootOnly}
 use Rattle.format.proofs.Each.{and-left, and-right, and₃}
@@ -98,13 +98,13 @@ module _ (b : List ℕ) (k : ℕ) (T : Tables) (ad : Admitted wordShape (reader 
 
   pub first-place : place 1 ≡ 33
   unfolding placeOf
-  first-place = eqb-true (place 1) 33 (each-clean wordShape (T .words) b k T ad 0 some .form)
+  first-place = eqb-true (place 1) 33 (each-clean wordShape (T .words) b k (rules T) ad 0 some .form)
 
   pub later-place : (n : ℕ) → n < k → 33 ≤ place (suc n)
   later-place zero h = let e = first-place in omega arith
   later-place (suc n) h =
       let a = later-place n (omega arith) in
-      let C = each-clean wordShape (T .words) b k T ad (suc n) h in
+      let C = each-clean wordShape (T .words) b k (rules T) ad (suc n) h in
       let p : ℕ = place (suc n) in
       let l : p < place (suc n + 1) = (subst (Ended b p) (C .stands) (tree-ended b p)) .0 in
       let l′ : p < place (suc (suc n)) = rw add-one at l in
@@ -137,8 +137,8 @@ module _ (b c : List ℕ) (k : ℕ) (parts parts′ symbols : List ℕ) (kept : 
   abbrev R′ : Reader (List ℕ)
   R′ = reader c k T′
 
-  clean-kept : (n p : ℕ) (w : List ℕ) (next kids : ℕ) → eqb n 0 ≡ false → 33 ≤ p → Clean (T .words) T n p (treeAt b p) w next kids
-      → Clean (T′ .words) T′ n p (treeAt c p) w next kids
+  clean-kept : (n p : ℕ) (w : List ℕ) (next kids : ℕ) → eqb n 0 ≡ false → 33 ≤ p → Clean (T .words) (rules T) n p (treeAt b p) w next kids
+      → Clean (T′ .words) (rules T′) n p (treeAt c p) w next kids
   clean-kept n p w next kids z h C =
       let t = C .raw in
       let e = kept .table in
@@ -155,14 +155,14 @@ module _ (b c : List ℕ) (k : ℕ) (parts parts′ symbols : List ℕ) (kept : 
 
   module _ (ad : Admitted wordShape R) where
     -- the new root: w are its words, of the same count
-    module _ (w : List ℕ) (root : judge (T′ .words) T′ 0 0 (treeAt c 0) ≡ got w 33 (stored wordShape R 0))
+    module _ (w : List ℕ) (root : judge (T′ .words) (rules T′) 0 0 (treeAt c 0) ≡ got w 33 (stored wordShape R 0))
         (size : length w ≡ 13) (sort : wordShape .isSub w ≡ true) (count : wordShape .count w ≡ wordShape .count (listing wordShape R .tree 0)) where
       reads-kept : (n : ℕ) → suc n < k → placeOf wordShape R′ (suc n) ≡ placeOf wordShape R (suc n) → reading wordShape R′ (suc n) ≡ reading wordShape R (suc n)
       reads-kept n h e =
           let p : ℕ = placeOf wordShape R (suc n) in
-          let C = each-clean wordShape (T .words) b k T ad (suc n) h in
+          let C = each-clean wordShape (T .words) b k (rules T) ad (suc n) h in
           let D = clean-kept (suc n) p _ _ _ (ne-eqb (suc n) 0 (omega arith)) (later-place b k T ad n (omega arith)) C in
-          ap (λ q. R′ .read (suc n) q) e ∙ clean-read (T′ .words) T′ (suc n) p (treeAt c p) _ _ _ D ∙ sym (ad .readable (suc n) h)
+          ap (λ q. R′ .read (suc n) q) e ∙ clean-read (T′ .words) (rules T′) (suc n) p (treeAt c p) _ _ _ D ∙ sym (ad .readable (suc n) h)
 
       root-reads : reading wordShape R′ 0 ≡ got w 33 (stored wordShape R 0)
       unfolding placeOf

@@ -5,7 +5,7 @@ use mathlib.Core.Path.{_≡_, refl}
 use mathlib.Core.List.{List, []}
 use Rattle.format.specs.Fields.{spanFits, isScalar, fields}
 use Rattle.format.specs.Tree.{punct, ident, literal, subtree}
-use Rattle.format.specs.Tables.{tablesSized, rowEight, countTables}
+use Rattle.format.specs.Tables.{tablesSized, rowEight, countRules}
 use Rattle.format.specs.Buffer.{rawReader}
 use Rattle.format.specs.WordList.{rawFrom, wordFields}
 use Rattle.format.specs.Write.{fits000, fits001, fits010}
@@ -36,8 +36,8 @@ literal-fields = (refl, refl, refl, refl, refl, refl, refl, refl, refl, refl, re
 
 -- "Span parts: 2 to 2,097,152. Symbols: 0 to 1,048,576." "Trees: 1 to 1,048,576."
 sizes : (tablesSized 2 0 ≡ true) × (tablesSized 1 0 ≡ false) × (tablesSized 2097152 1048576 ≡ true) × (tablesSized 2097153 0 ≡ false) × (tablesSized 2 1048577 ≡ false)
-    × (rawReader [] 1 (countTables 2 0) .sized ≡ true) × (rawReader [] 0 (countTables 2 0) .sized ≡ false)
-    × (rawReader [] 1048576 (countTables 2 0) .sized ≡ true) × (rawReader [] 1048577 (countTables 2 0) .sized ≡ false)
+    × (rawReader [] 1 (countRules 2 0) .sized ≡ true) × (rawReader [] 0 (countRules 2 0) .sized ≡ false)
+    × (rawReader [] 1048576 (countRules 2 0) .sized ≡ true) × (rawReader [] 1048577 (countRules 2 0) .sized ≡ false)
 sizes = (refl, refl, refl, refl, refl, refl, refl, refl, refl)
 
 -- row 8, "part 5 of 3": of three parts a descendant uses part 0 alone, the root parts 1 and 2

@@ -14,7 +14,7 @@ use Rattle.format.specs.Reader.{Reader, got}
 use Rattle.format.specs.Check.{placeOf, listing, stored, Admitted}
 use Rattle.format.specs.Tree.{Raw, punct, ident, literal, subtree, treeAt}
 use Rattle.format.specs.Fields.{spanFits, fields}
-use Rattle.format.specs.Tables.{Tables, partCount, indexedRoot, rowEight, treeWords, ownTables}
+use Rattle.format.specs.Tables.{rules, Tables, partCount, indexedRoot, rowEight, treeWords, ownTables}
 use Rattle.format.specs.Buffer.{wordShape, reader, ownReader, bufferCheck}
 use Rattle.format.specs.Root.{RootOnly}
 use Rattle.format.proofs.Each.{and-left, and-right, and₃}
@@ -51,8 +51,8 @@ module _ (b : List ℕ) (k : ℕ) (parts symbols : List ℕ) where
   unfolding placeOf
   root-of ad = go (C .raw) (C .stands ∙ ap (λ p. got (C .raw) p (stored wordShape R 0)) (first-place b k T ad)) (C .row2) (C .row8) (C .shown)
     where
-      C : Clean (T .words) T 0 0 (treeAt b 0) (listing wordShape R .tree 0) (placeOf wordShape R 1) (stored wordShape R 0)
-      C = each-clean wordShape (T .words) b k T ad 0 (some b k T ad)
+      C : Clean (T .words) (rules T) 0 0 (treeAt b 0) (listing wordShape R .tree 0) (placeOf wordShape R 1) (stored wordShape R 0)
+      C = each-clean wordShape (T .words) b k (rules T) ad 0 (some b k T ad)
 
       go : (t : Raw) → treeAt b 0 ≡ got t 33 (stored wordShape R 0) → fields t ≡ true → T .judged 0 t ≡ 0
           → listing wordShape R .tree 0 ≡ treeWords parts symbols t → Root
@@ -92,7 +92,7 @@ module _ (b : List ℕ) (k : ℕ) (parts symbols : List ℕ) where
         let row8 : rowEight (length parts′ / 3) (length symbols) 0 (subtree s t (wordAt b 25) d) ≡ 0 =
         ap (λ m. rowEight (m / 3) (length symbols) 0 (subtree s t (wordAt b 25) d)) (kept .table) ∙ simp g in
         root-only b c k parts parts′ symbols kept ad (treeWords parts′ symbols (subtree s t (wordAt b 25) d))
-        (clean-read (ownTables parts′ symbols .words) (ownTables parts′ symbols) 0 0 (treeAt c 0) _ 33 (stored wordShape R 0)
+        (clean-read (ownTables parts′ symbols .words) (rules (ownTables parts′ symbols)) 0 0 (treeAt c 0) _ 33 (stored wordShape R 0)
         (record { raw = subtree s t (wordAt b 25) d; stands = rw (r .kids) e; form = refl; row2 = f; row8 = row8; shown = refl }))
         refl refl
         (sym (ap (λ w. getD w 1 0) (r .words)))

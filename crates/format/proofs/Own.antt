@@ -13,7 +13,7 @@ use Rattle.format.specs.Walk.{freshWalk}
 use Rattle.format.specs.Check.{check, Admitted, listing, placeOf, stored}
 use Rattle.format.specs.Rule.{WalkRule}
 use Rattle.format.specs.Tree.{treeAt}
-use Rattle.format.specs.Tables.{ownTables}
+use Rattle.format.specs.Tables.{rules, ownTables}
 use Rattle.format.specs.Buffer.{wordShape, reader, ownReader, bufferCheck}
 use Rattle.format.specs.LastSpan.{endSpan, spanAnswer, lastSpan}
 use Rattle.format.specs.WordList.{listCount}
@@ -35,15 +35,15 @@ module _ (b : List ℕ) (k : ℕ) (parts symbols : List ℕ) where
   module _ (ok : bufferCheck b k parts symbols ≡ passed) where
     -- each tree stands there in some form, and rows 2, 7 and 8 are silent on it
     pub own-clean : (n : ℕ) → n < k
-        → Clean (ownTables parts symbols .words) (ownTables parts symbols) n (placeOf wordShape (ownReader b k parts symbols) n) (treeAt b (placeOf wordShape (ownReader b k parts symbols) n))
+        → Clean (ownTables parts symbols .words) (rules (ownTables parts symbols)) n (placeOf wordShape (ownReader b k parts symbols) n) (treeAt b (placeOf wordShape (ownReader b k parts symbols) n))
         (listing wordShape (ownReader b k parts symbols) .tree n) (placeOf wordShape (ownReader b k parts symbols) (n + 1)) (stored wordShape (ownReader b k parts symbols) n)
     unfolding ownReader
-    own-clean = each-clean wordShape (ownTables parts symbols .words) b k (ownTables parts symbols) (own-sound ok)
+    own-clean = each-clean wordShape (ownTables parts symbols .words) b k (rules (ownTables parts symbols)) (own-sound ok)
 
     -- DEMAND 3
     pub own-walk-rule : WalkRule wordShape (ownReader b k parts symbols)
     unfolding ownReader
-    own-walk-rule = walk-rule wordShape (ownTables parts symbols .words) b k (ownTables parts symbols) ok
+    own-walk-rule = walk-rule wordShape (ownTables parts symbols .words) b k (rules (ownTables parts symbols)) ok
 
     pub own-last-span : lastSpan b k parts symbols (freshWalk (ownReader b k parts symbols)) ≡ one (endSpan (listing wordShape (ownReader b k parts symbols) .tree (k - 1)))
     unfolding ownReader
@@ -53,7 +53,7 @@ module _ (b : List ℕ) (k : ℕ) (parts symbols : List ℕ) where
         let h : 1 ≤ k = leb-true 1 k (and-left (leb 1 k) (leb k 1048576) (and-left (leb 1 k && leb k 1048576) (T .sized) (ad .sized))) in
         ap spanAnswer
         (last-whole wordShape (reader b k T) (listing wordShape (reader b k T)) (stored wordShape (reader b k T))
-        (admitted-reads wordShape (reader b k T) (forward wordShape (T .words) b k T) ad) (ad .nested) h)
+        (admitted-reads wordShape (reader b k T) (forward wordShape (T .words) b k (rules T)) ad) (ad .nested) h)
 
 -- what the writer makes is admitted
 pub packed-admitted : (parts symbols l : List ℕ) → listVerdict parts symbols l ≡ passed → Admitted wordShape (ownReader (packed parts symbols l) (listCount l) parts symbols)

@@ -12,7 +12,7 @@ use Rattle.format.specs.Check.{check}
 use Rattle.format.specs.Sight.{sight, Alike}
 use Rattle.format.specs.Tree.{Raw, punct, ident, literal, subtree, isSubtree, countOf, treeAt}
 use Rattle.format.specs.Fields.{fields}
-use Rattle.format.specs.Tables.{Tables, treeWords, countTables, ownTables}
+use Rattle.format.specs.Tables.{TableRules, Tables, rules, treeWords, countRules, ownTables}
 use Rattle.format.specs.Buffer.{formed, unless, judge, wordShape, rawShape, reader, rawReader, ownReader, bufferCheck, sizeReader}
 use Rattle.format.proofs.Each.{true-false}
 use Rattle.format.proofs.Sight.{check-same}
@@ -22,7 +22,7 @@ pub record Telling (T : Tables) : Type 0 where
   pub sort : (n : ℕ) (t : Raw) → wordShape .isSub (T .words n t) ≡ isSubtree t
   pub count : (n : ℕ) (t : Raw) → isSubtree t ≡ true → wordShape .count (T .words n t) ≡ countOf t
 
-module _ (T T′ : Tables) (k : Telling T) (same : (n : ℕ) (t : Raw) → T .judged n t ≡ T′ .judged n t) (n p : ℕ) where
+module _ (T : Tables) (T′ : TableRules) (k : Telling T) (same : (n : ℕ) (t : Raw) → T .judged n t ≡ T′ .judged n t) (n p : ℕ) where
   got-same : (t : Raw) (next kids : ℕ) (c : Bool) → isSubtree t ≡ c → sight wordShape (got (T .words n t) next kids) ≡ sight rawShape (got t next kids)
   unfolding sight
   got-same t next kids true e =
@@ -33,19 +33,19 @@ module _ (T T′ : Tables) (k : Telling T) (same : (n : ℕ) (t : Raw) → T .ju
       let s = k .sort n t ∙ e in
       simp (s, e)
 
-  sight-judged : (q : Reply Raw) → sight wordShape (judge (T .words) T n p q) ≡ sight rawShape (judge (λ n t. t) T′ n p q)
+  sight-judged : (q : Reply Raw) → sight wordShape (judge (T .words) (rules T) n p q) ≡ sight rawShape (judge (λ n t. t) T′ n p q)
   unfolding sight judge
   sight-judged (bad r) = refl
   sight-judged (got t next kids) = go _ _ _ refl refl refl
     where
       go : (x y z : Bool) → formed n p next ≡ x → fields t ≡ y → eqb (T′ .judged n t) 0 ≡ z
-          → sight wordShape (judge (T .words) T n p (got t next kids)) ≡ sight rawShape (judge (λ n t. t) T′ n p (got t next kids))
+          → sight wordShape (judge (T .words) (rules T) n p (got t next kids)) ≡ sight rawShape (judge (λ n t. t) T′ n p (got t next kids))
       go false y z f g h = simp f
       go true false z f g h = simp (f, g)
       go true true false f g h = simp (f, g, same n t, h)
       go true true true f g h = simp (f, g, same n t, h) (got-same t next kids (isSubtree t) refl)
 
-module _ (b : List ℕ) (k : ℕ) (T T′ : Tables) (w : Telling T) (s : T .sized ≡ T′ .sized) (same : (n : ℕ) (t : Raw) → T .judged n t ≡ T′ .judged n t) where
+module _ (b : List ℕ) (k : ℕ) (T : Tables) (T′ : TableRules) (w : Telling T) (s : T .sized ≡ T′ .sized) (same : (n : ℕ) (t : Raw) → T .judged n t ≡ T′ .judged n t) where
   pub raw-alike : Alike wordShape (reader b k T) rawShape (rawReader b k T′)
   raw-alike =
       record {
@@ -83,4 +83,4 @@ pub own-check : (b : List ℕ) (k : ℕ) (parts symbols : List ℕ) → length p
 unfolding ownReader sizeReader
 own-check b k parts symbols h =
     let e = eq-eqb (length parts % 3) 0 h in
-    raw-check b k (ownTables parts symbols) (countTables (length parts / 3) (length symbols)) (own-telling parts symbols) (simp e) (λ n t. refl)
+    raw-check b k (ownTables parts symbols) (countRules (length parts / 3) (length symbols)) (own-telling parts symbols) (simp e) (λ n t. refl)

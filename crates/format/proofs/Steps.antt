@@ -12,7 +12,7 @@ use Rattle.format.specs.Nest.{nestFrom, stillOpen}
 use Rattle.format.specs.Tree.{treeAt, afterSpan, controlled}
 use Rattle.format.specs.Check.{check, placeOf}
 use Rattle.format.specs.Walk.{Walk, advance, skip, walkStep, walkRun, freshWalk}
-use Rattle.format.specs.Cursor.{Open, Cursor, CursorCall, bump, end, bumpOrEnd, tokenTree, peekTwoLeaves, lie, cursorStep, cursorRun, freshCursor}
+use Rattle.format.specs.Cursor.{Open, Cursor, CursorCall, bump, end, bumpOrEnd, tokenTree, peekTwoLeaves, nestedIn, cursorStep, cursorRun, freshCursor}
 use Rattle.format.specs.LastSpan.{lastFor, lastSpan}
 use Rattle.format.specs.Tables.{treeWords}
 use Rattle.format.specs.Buffer.{judge, wordShape, ownReader, bufferCheck}
@@ -68,7 +68,7 @@ cursor-ends : cursorRun wordShape (ownReader fiveBytes 5 threeParts []) (bump �
     ∷ (refused 10 0, on 3 45 (sub 2 0 38 ∷ sub 0 4 0 ∷ [])) ∷ (one (tree 2), on 3 45 (sub 0 4 0 ∷ []))
     ∷ (done, on 4 50 (sub 0 4 0 ∷ [])) ∷ (done, on 5 55 (sub 0 4 0 ∷ [])) ∷ (refused 10 0, on 5 55 (sub 0 4 0 ∷ []))
     ∷ (one (tree 0), on 5 55 []) ∷ (done, on 5 55 []) ∷ (refused 10 0, on 5 55 []) ∷ []
-unfolding cursorRun cursorStep lie ownReader judge treeWords treeAt afterSpan controlled spanAt wordAt
+unfolding cursorRun cursorStep nestedIn ownReader judge treeWords treeAt afterSpan controlled spanAt wordAt
 cursor-ends = refl
 
 -- the look ahead finds two leaves only where both are, and not past the end of the open subtree
@@ -76,10 +76,10 @@ cursor-looks : cursorRun wordShape (ownReader fiveBytes 5 threeParts []) (tokenT
     ≡ (one (tree 0), on 0 0 []) ∷ (none, on 0 0 []) ∷ (done, on 1 33 (sub 0 4 0 ∷ [])) ∷ (none, on 1 33 (sub 0 4 0 ∷ [])) ∷ (done, on 2 38 (sub 0 4 0 ∷ []))
     ∷ (done, on 3 45 (sub 2 0 38 ∷ sub 0 4 0 ∷ [])) ∷ (none, on 3 45 (sub 2 0 38 ∷ sub 0 4 0 ∷ [])) ∷ (done, on 3 45 (sub 0 4 0 ∷ []))
     ∷ (two (tree 3) (tree 4), on 3 45 (sub 0 4 0 ∷ [])) ∷ (done, on 4 50 (sub 0 4 0 ∷ [])) ∷ (none, on 4 50 (sub 0 4 0 ∷ [])) ∷ (one (tree 4), on 4 50 (sub 0 4 0 ∷ [])) ∷ []
-unfolding cursorRun cursorStep lie ownReader judge treeWords treeAt afterSpan controlled spanAt wordAt
+unfolding cursorRun cursorStep nestedIn ownReader judge treeWords treeAt afterSpan controlled spanAt wordAt
 cursor-looks = refl
 
--- invented states: a place past the end; more trees left than there are; an open subtree that ends before the cursor; one that does not lie in the one before
+-- invented states: a place past the end; more trees left than there are; an open subtree that ends before the cursor; one that does not nestedIn in the one before
 invented : (walkStep wordShape (ownReader fiveBytes 5 threeParts []) advance (at 56 0 5) .0 ≡ refused 10 0)
     × (walkStep wordShape (ownReader fiveBytes 5 threeParts []) advance (at 0 1 5) .0 ≡ refused 10 0)
     × (walkStep wordShape (ownReader fiveBytes 5 threeParts []) advance (at 33 0 5) .0 ≡ refused 2 0)
@@ -89,7 +89,7 @@ invented : (walkStep wordShape (ownReader fiveBytes 5 threeParts []) advance (at
     × (cursorStep wordShape (ownReader fiveBytes 5 threeParts []) tokenTree (on 4 50 (sub 2 3 38 ∷ sub 0 4 0 ∷ [])) .0 ≡ refused 10 0)
     × (cursorStep wordShape (ownReader fiveBytes 5 threeParts []) end (on 5 55 (sub 1 3 33 ∷ [])) .0 ≡ refused 10 0)
     × (walkStep wordShape (ownReader fiveBytes 0 threeParts []) advance (at 0 0 0) .0 ≡ refused 1 0)
-unfolding cursorStep walkStep lie ownReader judge treeWords treeAt afterSpan controlled spanAt wordAt
+unfolding cursorStep walkStep nestedIn ownReader judge treeWords treeAt afterSpan controlled spanAt wordAt
 invented = (refl, refl, refl, refl, refl, refl, refl, refl, refl)
 
 -- the last span: of the whole; of a leaf; of an empty subtree its close; none of no tree

@@ -10,7 +10,7 @@ use Rattle.format.specs.Span.{Span}
 use Rattle.format.specs.Reader.{Shape, Reader, Reply, got, bad}
 use Rattle.format.specs.Tree.{Raw, punct, isSubtree, countOf, treeAt}
 use Rattle.format.specs.Fields.{fields}
-use Rattle.format.specs.Tables.{Tables, countTables, ownTables}
+use Rattle.format.specs.Tables.{TableRules, Tables, rules, countRules, ownTables}
 use Rattle.format.specs.Check.{check}
 
 -- "The root is 33 bytes: 101, both spans heavy": of all forms only that one has 33. "A root not in the form below is 2 at tree 0."
@@ -23,7 +23,7 @@ module _ {A : Type 0} where
   unless r a = if eqb r 0 then a else bad r
 
   -- "tree by tree 7, 2, 8": tree n at place p, shown as an A. 7 and the early 2 come from reading its bytes
-  unfoldable pub judge : (ℕ → Raw → A) → Tables → ℕ → ℕ → Reply Raw → Reply A
+  unfoldable pub judge : (ℕ → Raw → A) → TableRules → ℕ → ℕ → Reply Raw → Reply A
   judge show T n p (got t next kids) =
       if not (formed n p next) then bad 2 else
       (if not (fields t) then bad 2 else
@@ -31,7 +31,7 @@ module _ {A : Type 0} where
   judge show T n p (bad r) = bad r
 
   -- "Trees: 1 to 1,048,576."
-  abbrev pub readerAs : (ℕ → Raw → A) → List ℕ → ℕ → Tables → Reader A
+  abbrev pub readerAs : (ℕ → Raw → A) → List ℕ → ℕ → TableRules → Reader A
   readerAs show b k T =
       record {
         sized = leb 1 k && leb k 1048576 && T .sized;
@@ -46,14 +46,14 @@ abbrev pub wordShape : Shape (List ℕ)
 wordShape = record { isSub = λ w. eqb (getD w 0 0) 3; count = λ w. getD w 1 0; blank = [] }
 
 abbrev pub reader : List ℕ → ℕ → Tables → Reader (List ℕ)
-reader b k T = readerAs (T .words) b k T
+reader b k T = readerAs (T .words) b k (rules T)
 
 -- ---- trees with their indices, no table entry looked up
 
 abbrev pub rawShape : Shape Raw
 rawShape = record { isSub = isSubtree; count = countOf; blank = punct (record { index = 0; start = 0; len = 0 }) 0 0 }
 
-abbrev pub rawReader : List ℕ → ℕ → Tables → Reader Raw
+abbrev pub rawReader : List ℕ → ℕ → TableRules → Reader Raw
 rawReader b k T = readerAs (λ n t. t) b k T
 
 -- ---- document 01's table mode: a part table whose last two are the root's, and a symbol table
@@ -67,4 +67,4 @@ bufferCheck b k parts symbols = check wordShape (ownReader b k parts symbols)
 
 -- the same buffer where only the number of parts and of symbols is known
 unfoldable pub sizeReader : List ℕ → ℕ → ℕ → ℕ → Reader Raw
-sizeReader b k parts symbols = rawReader b k (countTables parts symbols)
+sizeReader b k parts symbols = rawReader b k (countRules parts symbols)

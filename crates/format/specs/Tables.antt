@@ -8,14 +8,21 @@ use Rattle.format.specs.Test.{if_then_else_}
 use Rattle.format.specs.Span.{Span}
 use Rattle.format.specs.Tree.{Raw, punct, ident, literal, subtree}
 
--- one table mode is one value of this record
-pub record Tables : Type 0 where
+-- what tables say of sizes and indices: all that the check asks of them
+pub record TableRules : Type 0 where
   -- row 1 is silent on the tables
   pub sized : Bool
   -- tree n, whose indices these are: 0, or the number of the row that refuses them
   pub judged : ℕ → Raw → ℕ
-  -- tree n by its list words
+
+-- the same, and tree n by its list words. One table mode is one value of this record
+pub record Tables : Type 0 where
+  pub sized : Bool
+  pub judged : ℕ → Raw → ℕ
   pub words : ℕ → Raw → List ℕ
+
+abbrev pub rules : Tables → TableRules
+rules T = record { sized = T .sized; judged = T .judged }
 
 -- ---- row 8, by the number of parts, the last two of which are the root's, and of symbols
 
@@ -47,9 +54,9 @@ module _ (parts symbols : ℕ) where
   abbrev pub tablesSized : Bool
   tablesSized = leb 2 parts && leb parts 2097152 && leb symbols 1048576
 
-  -- tables of which the sizes alone are known: all that the check asks of them
-  abbrev pub countTables : Tables
-  countTables = record { sized = tablesSized; judged = rowEight; words = λ n t. [] }
+  -- tables of which the sizes alone are known
+  abbrev pub countRules : TableRules
+  countRules = record { sized = tablesSized; judged = rowEight }
 
 -- ---- a part table, three words a part, and a symbol table
 
