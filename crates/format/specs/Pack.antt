@@ -5,7 +5,7 @@ use mathlib.Core.List.{List}
 use lib.ListN.{length}
 use lib.Dec.{ltb, leb}
 use Rattle.format.specs.Test.{if_then_else_}
-use Rattle.format.specs.Verdict.{Verdict, _andThen_, rule, contents}
+use Rattle.format.specs.Verdict.{Verdict, _andThen_, rule, contents, Report, report}
 use Rattle.format.specs.Word.{put}
 use Rattle.format.specs.Span.{Span}
 use Rattle.format.specs.Fields.{spanFits}
@@ -28,6 +28,9 @@ module _ (out : List ℕ) (at : ℕ) where
       rule (ltb (s .index) 268435456) 8 0 andThen
       roomFor out at (spanForm heavy extra s)
 
+  abbrev pub spanReport : Bool → ℕ → Span → Report
+  spanReport heavy extra s = report (packSpan heavy extra s) (length (spanForm heavy extra s))
+
   abbrev pub spanPacked : Bool → ℕ → Span → List ℕ
   spanPacked heavy extra s = contents (packSpan heavy extra s) out (put out at (spanForm heavy extra s))
 
@@ -36,6 +39,9 @@ module _ (out : List ℕ) (at : ℕ) where
       rule (leb tag 1) 2 0 andThen
       rule (ltb i 536870912) 8 0 andThen
       roomFor out at (symbolBytes tag i)
+
+  abbrev pub symbolReport : ℕ → ℕ → Report
+  symbolReport tag i = report (packSymbol tag i) (length (symbolBytes tag i))
 
   abbrev pub symbolPacked : ℕ → ℕ → List ℕ
   symbolPacked tag i = contents (packSymbol tag i) out (put out at (symbolBytes tag i))

@@ -5,7 +5,7 @@ use mathlib.Core.List.{List, [], _∷_}
 use lib.ListN.{length, getD}
 use lib.Dec.{leb, eqb}
 use Rattle.format.specs.Test.{if_then_else_}
-use Rattle.format.specs.Verdict.{Verdict, _andThen_, rule, each, contents}
+use Rattle.format.specs.Verdict.{Verdict, _andThen_, rule, each, contents, Report, report}
 use Rattle.format.specs.Word.{put}
 use Rattle.format.specs.Tree.{Raw}
 use Rattle.format.specs.Tables.{partCount, indexedBelow, ownTables}
@@ -73,6 +73,10 @@ module _ (parts symbols : List ℕ) where
       -- then for the output
       abbrev pub writerVerdict : Verdict
       writerVerdict = workVerdict andThen rule (leb (length packed) (length out)) 6 0
+
+      -- the bytes written, or the refusal
+      abbrev pub writerReport : Report
+      writerReport = report writerVerdict (length packed)
 
       -- "they are filled once checks 1 to 5 pass and they suffice, also if the output then proves short"
       abbrev pub workAfter : List ℕ
