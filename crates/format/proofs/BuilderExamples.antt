@@ -7,14 +7,14 @@ use native.Mathlib.Omega.{arith}
 use borrow.Author.Tests.{le-ltb, lt-ltb}
 use lib.Dec.{leb}
 use lib.ListN.{length, replicate}
-use Rattle.format.specs.Verdict.{passed, refused, wrote, eachFrom}
+use Rattle.format.specs.Verdict.{passed, refused, wrote, refusal, eachFrom}
 use Rattle.format.specs.Word.{put}
 use Rattle.format.specs.Nest.{nestFrom, stillOpen}
 use Rattle.format.specs.Write.{suffixes, treeBytes, spanBytes, heavyBytes, rootBytes}
 use Rattle.format.specs.WordList.{rawFrom, listCount, listRules}
 use Rattle.format.specs.Writer.{find, raws, listVerdict}
 use Rattle.format.specs.Root.{WordSpan, rangeFits}
-use Rattle.format.specs.Builder.{Builder, Point, subtreeWords, leafFits, openFit, disagrees, Stepped, noBuilder, new, pushVerdict, openVerdict, closeVerdict, openBefore, isAmong, restorePoint, pointFits, Step, push, openSubtree, closeSubtree, restore, builderStep, builderRun, builderFrom, buildList, innerList, skipList, build}
+use Rattle.format.specs.Builder.{Builder, Point, subtreeWords, leafFits, openFit, disagrees, Stepped, noBuilder, new, pushVerdict, openVerdict, closeVerdict, openBefore, isAmong, pointVerdict, restorePoint, pointFits, Step, push, openSubtree, closeSubtree, restore, builderStep, builderRun, builderFrom, buildList, innerList, skipList, build}
 
 -- ---- what the limits answer
 
@@ -160,7 +160,8 @@ where-two = (refl, refl, refl)
 -- ---- what is built
 
 -- "10 while one is open"
-build-open : build [] [] [] [] (from (openSubtree 0 z ∷ []) .words) (from (openSubtree 0 z ∷ []) .builder) .verdict ≡ refused 10 0
+build-open : build [] [] (1 ∷ 2 ∷ []) (3 ∷ []) (from (openSubtree 0 z ∷ []) .words) (from (openSubtree 0 z ∷ []) .builder)
+    ≡ record { verdict = refused 10 0; report = refusal 10 0; work = 1 ∷ 2 ∷ []; out = 3 ∷ [] }
 unfolding z four from builderFrom new builderRun builderStep disagrees openFit put
 build-open = refl
 
@@ -188,3 +189,22 @@ root-plus : build (7 ∷ 0 ∷ 0 ∷ 0 ∷ 0 ∷ 0 ∷ 0 ∷ 0 ∷ 0 ∷ []) [] 
     }
 unfolding z plus four from builderFrom new builderRun builderStep disagrees openFit put rawFrom buildList listVerdict listRules eachFrom nestFrom stillOpen find raws suffixes treeBytes spanBytes heavyBytes rootBytes
 root-plus = refl
+
+-- a builder that disagrees has no point: 10 at 0
+no-point : (pointVerdict four noBuilder ≡ refused 10 0) × (restorePoint four noBuilder ≡ record { trees = 0; opened = 0 })
+unfolding four disagrees openFit
+no-point = (refl, refl)
+
+-- "10, 2, 4, 1 for a tree too many, 6" in this order, where two rows hold: kind 4 in a run of 12 words; spacing 3 in a full run; kind 4 with 255 open;
+-- none open and a span out of range
+abbrev far : WordSpan
+far = record { file = 0; ast = 0; context = 0; start = 4294967295; len = 1 }
+
+first-rows : (new 4 z z (replicate 12 0) .verdict ≡ refused 2 0)
+    × (pushVerdict (subtreeWords 0 3 z z) (record { count = 1; opened = [] }) (0 ∷ 43 ∷ 3 ∷ []) ≡ refused 2 1)
+    × (closeVerdict (subtreeWords 0 3 z z) (record { count = 1; opened = [] }) far ≡ refused 10 1)
+unfolding z new disagrees openFit rawFrom
+first-rows = (refl, refl, refl)
+
+kind-before-depth : (l : List ℕ) (b : Builder) → disagrees l b ≡ false → openVerdict l b 4 z ≡ refused 2 (b .count)
+kind-before-depth l b a = simp a

@@ -11,7 +11,7 @@ use Rattle.format.specs.Test.{if_then_else_}
 use Rattle.format.specs.Verdict.{Verdict, refused}
 use Rattle.format.specs.Check.{check}
 use Rattle.format.specs.Buffer.{rawShape, sizeReader}
-use Rattle.format.specs.Bundle.{Bundle, BundleRead, bundle, badBundle, marked, isPartRecord, isSymbolRecord, isLastRecord, partAt, symbolAt, behind, lastRecord, records, bundleAt, checkOf, bundleCheck}
+use Rattle.format.specs.Bundle.{Bundle, BundleRead, bundle, badBundle, marked, isPartRecord, isSymbolRecord, isLastRecord, partRecord, symbolRecord, behind, lastRecord, records, bundleAt, checkOf, bundleCheck}
 use Rattle.format.proofs.Each.{and-right}
 use Rattle.format.proofs.RawReader.{own-check}
 
@@ -27,10 +27,10 @@ module _ (b : List ℕ) where
       go true e = simp e h
       go false e = simp e tt
 
-  three : (p : ℕ) → length (partAt b p) % 3 ≡ 0
+  three : (p : ℕ) → length (partRecord b p) % 3 ≡ 0
   three p = go _ refl
     where
-      go : (x : Bool) → isPartRecord b p ≡ x → length (partAt b p) % 3 ≡ 0
+      go : (x : Bool) → isPartRecord b p ≡ x → length (partRecord b p) % 3 ≡ 0
       go true e = simp e
       go false e = simp e
 
@@ -38,9 +38,9 @@ module _ (b : List ℕ) where
   unfolding records
   whole zero parts symbols p h = tt
   whole (suc f) parts symbols p h =
-      go _ refl (whole f (parts ++ partAt b p) (symbols ++ symbolAt b p) (behind b p) (let t = three p in let l = length-append parts (partAt b p) in omega arith))
+      go _ refl (whole f (parts ++ partRecord b p) (symbols ++ symbolRecord b p) (behind b p) (let t = three p in let l = length-append parts (partRecord b p) in omega arith))
     where
-      go : (x : Bool) → (isPartRecord b p || isSymbolRecord b p) ≡ x → Whole (records b f (parts ++ partAt b p) (symbols ++ symbolAt b p) (behind b p))
+      go : (x : Bool) → (isPartRecord b p || isSymbolRecord b p) ≡ x → Whole (records b f (parts ++ partRecord b p) (symbols ++ symbolRecord b p) (behind b p))
           → Whole (records b (suc f) parts symbols p)
       go true e w = simp e w
       go false e w = simp e (last-whole parts symbols p h)
@@ -72,10 +72,10 @@ module _ (b : List ℕ) where
   records-enough zero zero parts symbols p h k = refl
   records-enough zero (suc g) parts symbols p h k = sym (none-left (suc g) parts symbols p (omega arith))
   records-enough (suc f) zero parts symbols p h k = none-left (suc f) parts symbols p (omega arith)
-  records-enough (suc f) (suc g) parts symbols p h k = go _ refl (records-enough f g (parts ++ partAt b p) (symbols ++ symbolAt b p) (behind b p))
+  records-enough (suc f) (suc g) parts symbols p h k = go _ refl (records-enough f g (parts ++ partRecord b p) (symbols ++ symbolRecord b p) (behind b p))
     where
       go : (x : Bool) → (isPartRecord b p || isSymbolRecord b p) ≡ x
-          → (length b ≤ behind b p + f → length b ≤ behind b p + g → records b f (parts ++ partAt b p) (symbols ++ symbolAt b p) (behind b p) ≡ records b g (parts ++ partAt b p) (symbols ++ symbolAt b p) (behind b p))
+          → (length b ≤ behind b p + f → length b ≤ behind b p + g → records b f (parts ++ partRecord b p) (symbols ++ symbolRecord b p) (behind b p) ≡ records b g (parts ++ partRecord b p) (symbols ++ symbolRecord b p) (behind b p))
           → records b (suc f) parts symbols p ≡ records b (suc g) parts symbols p
       go true e rec = let a = ahead p e .1 in simp e (rec (omega arith) (omega arith))
       go false e rec = simp e

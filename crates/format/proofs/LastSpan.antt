@@ -82,6 +82,10 @@ module _ {Tree : Type 0} (S : Shape Tree) (R : Reader Tree) where
       plus : w .left + 1 ≡ suc (w .left)
       plus = omega arith
 
+  -- a refused step is its refusal
+  pub last-refused : (w : Walk) (r n : ℕ) → walkStep S R skip w .0 ≡ refused r n → lastTree S R w ≡ refused r n
+  last-refused w r n e = last-step w ∙ rw e
+
 -- ---- over an admitted buffer
 
 module _ {Tree : Type 0} (S : Shape Tree) (R : Reader Tree) (L : Listing Tree) (kids : ℕ → ℕ) (rd : Reads S R L kids) (ne : Nested S L) where
@@ -173,7 +177,7 @@ module _ {Tree : Type 0} (S : Shape Tree) (R : Reader Tree) (L : Listing Tree) (
       let w : freshWalk R ≡ upTo (L .k) 0 = simp (rd .first, z) in
       rw w (last-is (L .k) (omega arith) (R .trees + 1) 0 (omega arith) h (λ i x y s. ne .inList i y s))
 
-  -- of a subtree and what it holds; of what it holds, if anything
+  -- of a subtree and what it holds
   pub last-subtree : (n : ℕ) → n < L .k → sub S L n ≡ true → lastTree S R (upTo (endOf S L n) n) ≡ one (L .tree (endOf S L n - 1))
   last-subtree n h s =
       last-is (endOf S L n) (ne .inList n h s) (endOf S L n - n + 1) n (omega arith) (omega arith) (λ i x y z. inner i x y z (eqb i n) refl)
@@ -184,3 +188,10 @@ module _ {Tree : Type 0} (S : Shape Tree) (R : Reader Tree) (L : Listing Tree) (
           let d = eqb-false i n e in
           let k = ne .inList n h s in
           ne .inOther n i (omega arith) (omega arith) y s z
+
+  -- of what it holds, if anything
+  pub last-inside : (n : ℕ) → n < L .k → sub S L n ≡ true → 0 < S .count (L .tree n) → lastTree S R (upTo (endOf S L n) (n + 1)) ≡ one (L .tree (endOf S L n - 1))
+  last-inside n h s z =
+      let k = ne .inList n h s in
+      last-is (endOf S L n) k (endOf S L n - (n + 1) + 1) (n + 1) (omega arith) (omega arith)
+      (λ i x y t. ne .inOther n i (omega arith) (omega arith) y s t)

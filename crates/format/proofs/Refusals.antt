@@ -7,7 +7,7 @@ use mathlib.Core.List.{List, [], _∷_, _++_}
 use native.Mathlib.Omega.{arith}
 use native.Mathlib.Decide.{decLt}
 use lib.ListN.{take, replicate}
-use Rattle.format.specs.Verdict.{passed, refused, eachFrom}
+use Rattle.format.specs.Verdict.{passed, refused, wrote, refusal, eachFrom}
 use Rattle.format.specs.Word.{wordAt, halfAt, put}
 use Rattle.format.specs.Span.{span, spanAt, symbolAt}
 use Rattle.format.specs.Reader.{got}
@@ -19,8 +19,8 @@ use Rattle.format.specs.Write.{treeBytes, rootBytes, heavyBytes, suffixe
 use Rattle.format.specs.Tables.{treeWords}
 use Rattle.format.specs.Buffer.{judge, wordShape, ownReader, bufferCheck}
 use Rattle.format.specs.WordList.{rawFrom, listRules}
-use Rattle.format.specs.Writer.{find, raws, listVerdict, writerVerdict, workAfter, outAfter}
-use Rattle.format.specs.Pack.{packSpan, packSymbol, spanPacked}
+use Rattle.format.specs.Writer.{find, raws, listVerdict, writerVerdict, writerReport, workAfter, outAfter}
+use Rattle.format.specs.Pack.{packSpan, packSymbol, spanPacked, spanReport, symbolReport}
 use Rattle.format.specs.Write.{spanBytes, symbolBytes}
 use Rattle.format.proofs.NestRun.{run-done, run-four, run-sub, nest-as-run}
 use Rattle.format.proofs.Worked.{spanOf, loneRoot, twoParts, rootWords, plus, parens}
@@ -145,6 +145,13 @@ packing : (packSpan [] 0 false 4 (spanOf 268435456 0 0) ≡ refused 2 0) × (pac
     × (packSymbol [] 0 2 536870912 ≡ refused 2 0) × (packSymbol [] 0 1 536870912 ≡ refused 8 0) × (packSymbol (0 ∷ []) 0 0 64 ≡ refused 6 0) × (packSymbol (0 ∷ []) 0 0 63 ≡ passed)
 unfolding spanBytes heavyBytes symbolBytes put
 packing = (refl, refl, refl, refl, refl, refl, refl, refl, refl, refl, refl)
+
+-- a report is the number of bytes written
+reports : (spanReport (replicate 9 0) 1 false 0 (spanOf 16 0 0) ≡ wrote 8) × (spanReport [] 0 false 0 (spanOf 268435456 0 0) ≡ refusal 8 0)
+    × (symbolReport (replicate 9 0) 3 0 64 ≡ wrote 2) × (symbolReport [] 0 2 0 ≡ refusal 2 0)
+    × (writerReport twoParts [] rootWords (5 ∷ 5 ∷ []) (replicate 34 7) ≡ wrote 33) × (writerReport twoParts [] rootWords (5 ∷ 5 ∷ []) (replicate 32 7) ≡ refusal 6 0)
+unfolding spanBytes heavyBytes symbolBytes put listVerdict listRules eachFrom nestFrom stillOpen rawFrom find raws suffixes treeBytes rootBytes
+reports = (refl, refl, refl, refl, refl, refl)
 
 -- "In 000 the distance is the span's length OR the control bits × 256": 3 OR 256; 300 OR 256
 distances : (treeAt (0xC0 ∷ 0x80 ∷ 2 ∷ 0 ∷ 0x20 ∷ 0 ∷ 0 ∷ []) 0 ≡ got (subtree (spanOf 0 5 1) (spanOf 0 264 1) 0 0) 7 0)

@@ -2,8 +2,8 @@
 use Prim.Native.Nat.{ℕ}
 use mathlib.Core.Path.{_≡_, refl, ap, _∙_}
 use mathlib.Core.List.{List, [], _∷_, _++_}
-use lib.ListN.{getD, take, drop}
-use Rattle.format.specs.Verdict.{passed, eachFrom}
+use lib.ListN.{length, getD, take, drop}
+use Rattle.format.specs.Verdict.{Verdict, passed, eachFrom}
 use Rattle.format.specs.Reader.{Answer, done, none, one, two, refused}
 use Rattle.format.specs.Word.{wordAt, halfAt}
 use Rattle.format.specs.Span.{spanAt, symbolAt}
@@ -16,7 +16,7 @@ use Rattle.format.specs.Cursor.{Open, Cursor, CursorCall, bump, end, bum
 use Rattle.format.specs.LastSpan.{lastFor, lastSpan}
 use Rattle.format.specs.Tables.{treeWords}
 use Rattle.format.specs.Buffer.{judge, wordShape, ownReader, bufferCheck}
-use Rattle.format.specs.Bundle.{Bundle, bundle, badBundle, records, bundleAt, checkOf}
+use Rattle.format.specs.Bundle.{Bundle, bundle, badBundle, records, bundleAt, checkOf, numberOf}
 use Rattle.format.specs.Lister.{digitsFor, refusalLine, header, treeLine, treeLines, bundleText, listerText}
 use Rattle.format.proofs.Samples.{threeParts, fourParts, hundredSymbols, tenBytes}
 
@@ -79,7 +79,7 @@ cursor-looks : cursorRun wordShape (ownReader fiveBytes 5 threeParts []) (tokenT
 unfolding cursorRun cursorStep nestedIn ownReader judge treeWords treeAt afterSpan controlled spanAt wordAt
 cursor-looks = refl
 
--- invented states: a place past the end; more trees left than there are; an open subtree that ends before the cursor; one that does not nestedIn in the one before
+-- invented states: a place past the end; more trees left than there are; an open subtree that ends before the cursor; one that does not lie in the one before
 invented : (walkStep wordShape (ownReader fiveBytes 5 threeParts []) advance (at 56 0 5) .0 ≡ refused 10 0)
     × (walkStep wordShape (ownReader fiveBytes 5 threeParts []) advance (at 0 1 5) .0 ≡ refused 10 0)
     × (walkStep wordShape (ownReader fiveBytes 5 threeParts []) advance (at 33 0 5) .0 ≡ refused 2 0)
@@ -100,6 +100,15 @@ last-spans : (lastSpan fiveBytes 5 threeParts [] (at 0 0 5) ≡ one (7 ∷ 0 ∷
     × (lastSpan tenBytes 10 fourParts hundredSymbols (at 0 0 10) ≡ one (8 ∷ 0 ∷ 0 ∷ 83 ∷ 1 ∷ []))
 unfolding lastFor walkStep ownReader judge treeWords treeAt afterSpan controlled spanAt symbolAt wordAt halfAt
 last-spans = (refl, refl, refl, refl, refl)
+
+-- its refusals are those of its steps: 3 where the root does not fit in the trees left, 9 and 7 in a buffer that is cut, 10 and 1 on the walk and the sizes
+last-refusals : (lastSpan fiveBytes 5 threeParts [] (at 0 0 4) ≡ refused 3 0)
+    × (lastSpan (take 44 fiveBytes) 5 threeParts [] (at 0 0 5) ≡ refused 9 0)
+    × (lastSpan (take 44 fiveBytes) 5 threeParts [] (at 33 1 2) ≡ refused 7 2)
+    × (lastSpan fiveBytes 5 threeParts [] (at 56 0 5) ≡ refused 10 0)
+    × (lastSpan fiveBytes 0 threeParts [] (at 0 0 0) ≡ refused 1 0)
+unfolding lastFor walkStep ownReader judge treeWords treeAt afterSpan controlled spanAt wordAt
+last-refusals = (refl, refl, refl, refl, refl)
 
 -- ---- the lister
 
@@ -151,6 +160,35 @@ lister-text =
     ap (λ r. bundleText r (checkOf r)) bundle-read
     ∙ ap (bundleText (bundle (record { parts = threeParts; symbols = []; trees = 2; bytes = plusBuffer }))) bundle-passes
     ∙ (λ i. header-text i ++ (root-text i ++ (plus-text i ++ [])))
+
+-- an ident and a literal three deep
+leaf-texts : (treeLine tenBytes 10 fourParts hundredSymbols 2 ≡ 50 ∷ 32 ∷ 52 ∷ 48 ∷ 32 ∷ 51 ∷ 32 ∷ 105 ∷ 100 ∷ 101 ∷ 110 ∷ 116 ∷ 10 ∷ []) × (treeLine tenBytes 10 fourParts hundredSymbols 3 ≡ 51 ∷ 32 ∷ 52 ∷ 54 ∷ 32 ∷ 51 ∷ 32 ∷ 108 ∷ 105 ∷ 116 ∷ 101 ∷ 114 ∷ 97 ∷ 108 ∷ 10 ∷ [])
+unfolding digitsFor around placeOf ownReader judge treeWords treeAt afterSpan controlled spanAt symbolAt wordAt halfAt
+leaf-texts = (refl, refl)
+
+-- "The lister takes 65,536 bytes of standard input (more is 1)."
+lister-limit : (b : List ℕ) → length b ≡ 65536 → listerText b ≡ bundleText (bundleAt b) (checkOf (bundleAt b))
+lister-limit b h = simp h
+
+lister-over : (b : List ℕ) → length b ≡ 65537 → listerText b ≡ refusalLine 1 0
+lister-over b h = simp h
+
+-- a refused bundle: `+` with part 5 of 3 is tree 1
+refused-bundle : bundleText (bundle (record { parts = threeParts; symbols = []; trees = 2; bytes = take 33 plusBuffer ++ (0x55 ∷ 0 ∷ 5 ∷ 0 ∷ 0x56 ∷ []) }))
+    (checkOf (bundle (record { parts = threeParts; symbols = []; trees = 2; bytes = take 33 plusBuffer ++ (0x55 ∷ 0 ∷ 5 ∷ 0 ∷ 0x56 ∷ []) })))
+    ≡ 114 ∷ 101 ∷ 102 ∷ 117 ∷ 115 ∷ 101 ∷ 100 ∷ 32 ∷ 56 ∷ 32 ∷ 97 ∷ 116 ∷ 32 ∷ 49 ∷ 10 ∷ []
+unfolding digitsFor check eachFrom placeOf ownReader judge treeWords treeAt afterSpan controlled spanAt wordAt
+refused-bundle = refl
+
+-- the host's number
+host-number : (numberOf passed ≡ 0) × (numberOf (Verdict.refused 7 3) ≡ 7)
+host-number = (refl, refl)
+
+-- records in any order: a symbol, a part, a symbol
+mixed-bundle : bundleAt (0x53 ∷ 0x59 ∷ 5 ∷ 0 ∷ 0 ∷ 1 ∷ 0x53 ∷ 0x50 ∷ 7 ∷ 0 ∷ 0 ∷ 0 ∷ 8 ∷ 1 ∷ 0 ∷ 0 ∷ 9 ∷ 0 ∷ 2 ∷ 0 ∷ 0x53 ∷ 0x59 ∷ 6 ∷ 0 ∷ 0 ∷ 0 ∷ 0x42 ∷ 0x54 ∷ 3 ∷ 0 ∷ 0 ∷ 0 ∷ 1 ∷ 0 ∷ 0 ∷ 0 ∷ 4 ∷ [])
+    ≡ bundle (record { parts = 7 ∷ 264 ∷ 131081 ∷ []; symbols = 16777221 ∷ 6 ∷ []; trees = 3; bytes = 4 ∷ [] })
+unfolding records wordAt
+mixed-bundle = refl
 
 refusal-text : refusalLine 7 0 ≡ 114 ∷ 101 ∷ 102 ∷ 117 ∷ 115 ∷ 101 ∷ 100 ∷ 32 ∷ 55 ∷ 32 ∷ 97 ∷ 116 ∷ 32 ∷ 48 ∷ 10 ∷ []
 unfolding digitsFor

@@ -24,18 +24,18 @@ module _ (b : List ℕ) where
   abbrev pub marked : ℕ → ℕ → ℕ → Bool
   marked x y p = leb (p + 2) (length b) && eqb (byteAt b p) x && eqb (byteAt b (p + 1)) y
 
-  -- "`SP` and 12 bytes for one part, `SY` and 4 for one symbol": whether one stands whole at place p, its words, and its bytes
+  -- "`SP` and 12 bytes for one part, `SY` and 4 for one symbol": whether one stands whole at place p, its words, and the place behind it
   abbrev pub isPartRecord : ℕ → Bool
   isPartRecord p = marked 0x53 0x50 p && leb (p + 14) (length b)
 
   abbrev pub isSymbolRecord : ℕ → Bool
   isSymbolRecord p = marked 0x53 0x59 p && leb (p + 6) (length b)
 
-  abbrev pub partAt : ℕ → List ℕ
-  partAt p = if isPartRecord p then wordAt b (p + 2) ∷ wordAt b (p + 6) ∷ wordAt b (p + 10) ∷ [] else []
+  abbrev pub partRecord : ℕ → List ℕ
+  partRecord p = if isPartRecord p then wordAt b (p + 2) ∷ wordAt b (p + 6) ∷ wordAt b (p + 10) ∷ [] else []
 
-  abbrev pub symbolAt : ℕ → List ℕ
-  symbolAt p = if isSymbolRecord p then wordAt b (p + 2) ∷ [] else []
+  abbrev pub symbolRecord : ℕ → List ℕ
+  symbolRecord p = if isSymbolRecord p then wordAt b (p + 2) ∷ [] else []
 
   abbrev pub behind : ℕ → ℕ
   behind p = if isPartRecord p then p + 14 else p + 6
@@ -53,7 +53,7 @@ module _ (b : List ℕ) where
   records zero parts symbols p = badBundle
   records (suc f) parts symbols p =
       if isPartRecord p || isSymbolRecord p
-      then records f (parts ++ partAt p) (symbols ++ symbolAt p) (behind p)
+      then records f (parts ++ partRecord p) (symbols ++ symbolRecord p) (behind p)
       else lastRecord parts symbols p
 
   abbrev pub bundleAt : BundleRead

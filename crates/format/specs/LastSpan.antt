@@ -1,9 +1,9 @@
 -- `last_span` of the trees that a walk has left.
 use Prim.Native.Nat.{ℕ, zero, suc, _+_}
-use mathlib.Core.Bool.{Bool, _&&_}
+use mathlib.Core.Bool.{_&&_}
 use mathlib.Core.List.{List}
-use lib.ListN.{getD, take, drop}
-use lib.Dec.{ltb, eqb}
+use lib.ListN.{take, drop}
+use lib.Dec.{ltb}
 use Rattle.format.specs.Test.{if_then_else_}
 use Rattle.format.specs.Reader.{Shape, Reader, Answer, done, none, one, two, refused}
 use Rattle.format.specs.Walk.{Walk, advance, skip, walkStep}
@@ -18,6 +18,7 @@ module _ {Tree : Type 0} (S : Shape Tree) (R : Reader Tree) where
   -- "going child by child, the first refused step is its refusal"
   lastAfter go w (refused r n) v = refused r n
   lastAfter go w none v = none
+  -- a walk step never answers these two
   lastAfter go w done v = none
   lastAfter go w (two t u) v = none
 

@@ -81,6 +81,7 @@ module _ (b : List ℕ) (k : ℕ) (parts symbols : List ℕ) where
 abbrev pub bundleText : BundleRead → Verdict → List ℕ
 bundleText r (refused x n) = refusalLine x n
 bundleText (bundle B) passed = header (B .bytes) (B .trees) (B .parts) (B .symbols) ++ treeLines (B .bytes) (B .trees) (B .parts) (B .symbols) (B .trees) 0
+-- no bad bundle is passed
 bundleText badBundle passed = refusalLine 1 0
 
 -- "The lister takes 65,536 bytes of standard input (more is 1)."

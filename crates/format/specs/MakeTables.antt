@@ -12,7 +12,7 @@ use Rattle.format.specs.WordList.{wordOf, listCount, listRows}
 use Rattle.format.specs.Distinct.{tally, news, times}
 use Rattle.format.specs.Order.{ordered}
 
--- ---- the keys, `symbols` or span parts, "root excluded, open before close"
+-- ---- the keys, "root excluded, open before close". `true` is the symbol table, `false` the part table
 
 -- how many numbers there are: of symbols one for each tree below the root, of parts two
 unfoldable pub keyCount : List ℕ → Bool → ℕ

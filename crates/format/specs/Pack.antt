@@ -11,8 +11,7 @@ use Rattle.format.specs.Span.{Span}
 use Rattle.format.specs.Fields.{spanFits}
 use Rattle.format.specs.Write.{heavyBytes, spanBytes, symbolBytes}
 
--- "Packing one span or symbol: 2 (extra bits above 3, tag above 1, start + length too large), 8, 6."
--- Row 8: "to pack a span index of 2^28 or a symbol index of 2^29 or more". Row 6: "a lent run is too short"
+-- row 6: "a lent run is too short"
 abbrev pub roomFor : List ℕ → ℕ → List ℕ → Verdict
 roomFor out at vs = rule (leb (at + length vs) (length out)) 6 0
 
@@ -20,6 +19,8 @@ roomFor out at vs = rule (leb (at + length vs) (length out)) 6 0
 abbrev pub spanForm : Bool → ℕ → Span → List ℕ
 spanForm heavy extra s = if heavy then heavyBytes extra s else spanBytes extra s
 
+-- "Packing one span or symbol: 2 (extra bits above 3, tag above 1, start + length too large), 8, 6."
+-- Row 8: "to pack a span index of 2^28 or a symbol index of 2^29 or more". A report is the number of bytes written
 module _ (out : List ℕ) (at : ℕ) where
   abbrev pub packSpan : Bool → ℕ → Span → Verdict
   packSpan heavy extra s =

@@ -74,12 +74,12 @@ pub record OnlyKind (b new : List ℕ) : Type 0 where
   pub lowBits : byteAt new 12 % 8 ≡ byteAt b 12 % 8
 
 -- "Spans: bytes 0 to 11 and 13 to 24, and the last two parts", and no other byte or part
-pub record OnlySpans (b new parts newParts : List ℕ) : Type 0 where
+pub record OnlySpans (b new parts table : List ℕ) : Type 0 where
   pub size : length new ≡ length b
   pub control : byteAt new 12 ≡ byteAt b 12
   pub behind : (i : ℕ) → 25 ≤ i → byteAt new i ≡ byteAt b i
-  pub tableSize : length newParts ≡ length parts
-  pub others : (i : ℕ) → i + 6 < length parts → getD newParts i 0 ≡ getD parts i 0
+  pub tableSize : length table ≡ length parts
+  pub others : (i : ℕ) → i + 6 < length parts → getD table i 0 ≡ getD parts i 0
 
 -- the root's 13 words with another kind, which is word 2; with other spans, which are words 3 to 12
 abbrev pub withKind : ℕ → List ℕ → List ℕ
