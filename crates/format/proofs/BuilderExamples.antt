@@ -1,11 +1,11 @@
 -- Worked steps of a builder: document 01's examples of rows 4, 10 and 11, and what the limits answer.
 use Prim.Native.Nat.{ℕ, zero, suc, _<_}
-use mathlib.Core.Bool.{true, false}
+use mathlib.Core.Bool.{Bool, true, false}
 use mathlib.Core.Path.{_≡_, refl}
 use mathlib.Core.List.{List, [], _∷_, _++_}
 use native.Mathlib.Omega.{arith}
 use borrow.Author.Tests.{le-ltb, lt-ltb}
-use lib.Dec.{leb}
+use lib.Dec.{ltb, leb, eqb}
 use lib.ListN.{length, replicate}
 use Rattle.format.specs.Verdict.{passed, refused, wrote, refusal, eachFrom}
 use Rattle.format.specs.Word.{put}
@@ -14,7 +14,7 @@ use Rattle.format.specs.Write.{suffixes, treeBytes, spanBytes, heavyByte
 use Rattle.format.specs.WordList.{rawFrom, listCount, listRules}
 use Rattle.format.specs.Writer.{find, raws, listVerdict}
 use Rattle.format.specs.Root.{WordSpan, rangeFits}
-use Rattle.format.specs.Builder.{Builder, Point, subtreeWords, leafFits, openFit, disagrees, Stepped, noBuilder, new, pushVerdict, openVerdict, closeVerdict, openBefore, isAmong, pointVerdict, restorePoint, pointFits, Step, push, openSubtree, closeSubtree, restore, builderStep, builderRun, builderFrom, buildList, innerList, skipList, build}
+use Rattle.format.specs.Builder.{Builder, Point, subtreeWords, leafFits, openFit, disagrees, Stepped, noBuilder, new, room, pushVerdict, openVerdict, closeVerdict, openBefore, isAmong, pointVerdict, restorePoint, pointFits, Step, push, openSubtree, closeSubtree, restore, builderStep, builderRun, builderFrom, buildList, innerList, skipList, build}
 
 -- ---- what the limits answer
 
@@ -26,6 +26,10 @@ module _ (l : List ℕ) (b : Builder) (a : disagrees l b ≡ false) where
   -- "Subtrees nest at most 256 deep, the root counting 1."
   pub open-deep : (kind : ℕ) (s : WordSpan) → leb kind 3 ≡ true → rangeFits s ≡ true → length (b .opened) ≡ 255 → openVerdict l b kind s ≡ refused 4 (b .count)
   open-deep kind s k f h = simp (a, k, f, h)
+
+  -- with 254 open one more may be opened
+  pub open-room : (kind : ℕ) (s : WordSpan) → leb kind 3 ≡ true → rangeFits s ≡ true → length (b .opened) ≡ 254 → openVerdict l b kind s ≡ room l b
+  open-room kind s k f h = simp (a, k, f, h)
 
   -- "1 for a tree too many"
   pub push-many : (w : List ℕ) → leafFits w ≡ true → b .count ≡ 1048576 → pushVerdict l b w ≡ refused 1 1048576
@@ -113,16 +117,6 @@ subs : ℕ → List ℕ
 subs zero = []
 subs (suc n) = subtreeWords 0 0 z z ++ subs n
 
-down : ℕ → List ℕ
-down zero = []
-down (suc n) = suc n ∷ down n
-
-deep : (openVerdict (subs 257) (record { count = 256; opened = down 255 }) 0 z ≡ refused 4 256)
-    × (openVerdict (subs 257) (record { count = 255; opened = down 254 }) 0 z ≡ passed)
-    × (openVerdict (subs 258) (record { count = 257; opened = down 256 }) 0 z ≡ refused 10 257)
-unfolding z subs down disagrees openFit
-deep = (refl, refl, refl)
-
 -- ---- a builder that disagrees
 
 disagreeing : (disagrees (subs 3) (record { count = 3; opened = 2 ∷ 1 ∷ [] }) ≡ false)
@@ -136,6 +130,17 @@ disagreeing : (disagrees (subs 3) (record { count = 3; opened = 2 ∷ 1 ∷ [] }
     × (disagrees (subs 1 ++ plus) (record { count = 2; opened = 1 ∷ [] }) ≡ true)
 unfolding z plus four subs disagrees openFit
 disagreeing = (refl, refl, refl, refl, refl, refl, refl, refl, refl)
+
+-- "over 255 are open"
+over-255 : (l : List ℕ) (b : Builder) → length (b .opened) ≡ 256 → disagrees l b ≡ true
+unfolding disagrees
+over-255 l b h = go (eqb (b .count) 0) (ltb 1048576 (b .count)) (ltb (listCount l) (b .count)) refl refl refl
+  where
+    go : (x y z : Bool) → eqb (b .count) 0 ≡ x → ltb 1048576 (b .count) ≡ y → ltb (listCount l) (b .count) ≡ z → disagrees l b ≡ true
+    go true y z e f g = simp e
+    go false true z e f g = simp (e, f)
+    go false false true e f g = simp (e, f, g)
+    go false false false e f g = simp (e, f, g, h)
 
 too-many : (l ms : List ℕ) → disagrees l (record { count = 1048577; opened = ms }) ≡ true
 unfolding disagrees
