@@ -1,0 +1,30 @@
+use borrow.Author.Needs.{needs}
+use Rattle.pack.proofs.PackReturns.{encode-span-cases}
+use Rattle.pack.proofs.span.encode_span_no_map.Statement.{statement}
+use Rattle.pack.proofs.span.encode_span_no_map.Tie as tie
+
+returns : tie.Need-returns
+returns c = search (needs, encode-span-cases)
+
+sub-if2 : tie.Need-sub-if2
+sub-if2 c = search (needs, encode-span-cases)
+
+returns-2 : tie.Need-returns-2
+returns-2 c = search (needs, encode-span-cases)
+
+returns-3 : tie.Need-returns-3
+returns-3 c = search (needs, encode-span-cases)
+
+pack-form-requires : tie.Need-pack-form-requires
+pack-form-requires c κs = search (needs, encode-span-cases)
+
+same-length : tie.Need-same-length
+same-length c = search (needs, encode-span-cases)
+
+returns-4 : tie.Need-returns-4
+returns-4 c = search (needs, encode-span-cases)
+
+pub encode-span-no-map-spec : {M : Type 1} → statement M
+encode-span-no-map-spec =
+    tie.close
+    (tie.spec returns sub-if2 returns-2 returns-3 pack-form-requires same-length returns-4)

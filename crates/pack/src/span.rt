@@ -1,0 +1,254 @@
+// Packing and reading of one span: one, two or three little-endian words.
+use crate::Packed;
+use crate::room;
+use crate::unchecked::put_word;
+use crate::unchecked::word_at;
+ghost use mathlib.Core.Path.{_≡_};
+ghost use Prim.Native.Nat.{_+_, _≤_, _<_};
+ghost use lib.ListN.{length};
+ghost use Rattle.format.specs.Word.{wordBytes};
+ghost use Rattle.format.specs.Span.{span₁, span₂, span₃, spanAt};
+ghost use Rattle.format.specs.Write.{firstWord, secondWord, heavySecond, heavyThird, heavyBytes};
+ghost use Rattle.format.specs.Pack.{spanForm};
+ghost use Rattle.pack.specs.Answer.{spanOf, spanHere, spanAnswer, allBelow};
+ghost use Rattle.pack.specs.Packing.{extendedBytes, Stored, SpanPacked};
+
+// A span as it is packed: the index of its part, its start and its length.
+pub struct PackedSpan {
+    pub index: u32,
+    pub start: u32,
+    pub len: u32,
+}
+
+// A span that was read, its extra bits, and the place behind it.
+pub struct SpanAt {
+    pub span: PackedSpan,
+    pub extra: u32,
+    pub next: usize,
+}
+
+pub enum SpanRead {
+    Read(SpanAt),
+    // The buffer ends inside the span.
+    Short,
+}
+
+fn from_one(w: u32, next: usize) -> SpanAt
+    ensures { λ r. ⌜ r ≡ spanHere w (span₁ w) next ⌝ }
+{
+    SpanAt {
+        span: PackedSpan {
+            index: w / 4 % 16,
+            start: w / 32768,
+            len: w / 64 % 256,
+        },
+        extra: w % 4,
+        next: next,
+    }
+}
+
+fn from_two(w: u32, v: u32, next: usize) -> SpanAt
+    ensures { λ r. ⌜ r ≡ spanHere w (span₂ w v) next ⌝ }
+{
+    SpanAt {
+        span: PackedSpan {
+            index: w / 4 % 16 + 16 * (v / 2 % 2048),
+            start: w / 32768 + 131072 * (v / 4194304),
+            len: w / 64 % 256 + 256 * (v / 4096 % 1024),
+        },
+        extra: w % 4,
+        next: next,
+    }
+}
+
+fn from_three(w: u32, v: u32, u: u32, next: usize) -> SpanAt
+    ensures { λ r. ⌜ r ≡ spanHere w (span₃ w v u) next ⌝ }
+{
+    SpanAt {
+        span: PackedSpan {
+            index: w / 4 % 16 + 16 * (u % 16777216),
+            start: w / 32768 + 131072 * (v / 131072),
+            len: w / 64 % 256 + 256 * (u / 16777216 + 256 * (v / 2 % 65536)),
+        },
+        extra: w % 4,
+        next: next,
+    }
+}
+
+// The span at a place, and the place behind it.
+pub fn decode_span(b: &[u8], at: usize) -> SpanRead
+    ensures { λ r. ⌜ r ≡ spanAnswer (spanAt (now (b .entry)) at) ⌝ }
+{
+    let left = room(b.len(), at);
+    if left < 4 {
+        return SpanRead::Short;
+    }
+    let w = word_at(b, at);
+    if w / 16384 % 2 == 0 {
+        return SpanRead::Read(from_one(w, at + 4));
+    }
+    if left < 8 {
+        return SpanRead::Short;
+    }
+    let v = word_at(b, at + 4);
+    if v % 2 == 0 {
+        return SpanRead::Read(from_two(w, v, at + 8));
+    }
+    if left < 12 {
+        return SpanRead::Short;
+    }
+    let u = word_at(b, at + 8);
+    SpanRead::Read(from_three(w, v, u, at + 12))
+}
+
+// Whether index, start and length are below three limits.
+fn all_below(span: PackedSpan, i: u32, s: u32, l: u32) -> bool
+    ensures { λ r. ⌜ r ≡ allBelow (spanOf span) i s l ⌝ }
+{
+    if i <= span.index {
+        return false;
+    }
+    if s <= span.start {
+        return false;
+    }
+    if l <= span.len {
+        return false;
+    }
+    true
+}
+
+// Whether one word holds the span.
+fn is_small(span: PackedSpan) -> bool
+    ensures { λ r. ⌜ r ≡ allBelow (spanOf span) 16 131072 256 ⌝ }
+{
+    all_below(span, 16, 131072, 256)
+}
+
+// Whether two words hold the span.
+fn is_extended(span: PackedSpan) -> bool
+    ensures { λ r. ⌜ r ≡ allBelow (spanOf span) 32768 134217728 262144 ⌝ }
+{
+    all_below(span, 32768, 134217728, 262144)
+}
+
+// The bytes that a span takes: the extra bits do not change their number.
+pub fn span_size(span: PackedSpan, heavy: bool) -> usize
+    ensures { λ r. ⌜ r ≡ length (spanForm heavy 0 (spanOf span)) ⌝ }
+{
+    if heavy {
+        return 12;
+    }
+    if is_small(span) {
+        return 4;
+    }
+    if is_extended(span) {
+        return 8;
+    }
+    12
+}
+
+fn first_word(extra: u32, extend: u32, span: PackedSpan) -> u32
+    requires { ⌜ (extra ≤ 3) × (extend ≤ 1) ⌝ }
+    ensures { λ r. ⌜ r ≡ firstWord extra extend (spanOf span) ⌝ }
+{
+    extra
+        + 4 * (span.index % 16)
+        + 64 * (span.len % 256)
+        + 16384 * extend
+        + 32768 * (span.start % 131072)
+}
+
+fn second_word(span: PackedSpan) -> u32
+    requires { ⌜ (span .index < 32768) × (span .start < 134217728) × (span .len < 262144) ⌝ }
+    ensures { λ r. ⌜ r ≡ secondWord (spanOf span) ⌝ }
+{
+    2 * (span.index / 16) + 4096 * (span.len / 256) + 4194304 * (span.start / 131072)
+}
+
+fn heavy_second(span: PackedSpan) -> u32
+    ensures { λ r. ⌜ r ≡ heavySecond (spanOf span) ⌝ }
+{
+    1 + 2 * (span.len / 65536) + 131072 * (span.start / 131072)
+}
+
+fn heavy_third(span: PackedSpan) -> u32
+    requires { ⌜ span .index < 268435456 ⌝ }
+    ensures { λ r. ⌜ r ≡ heavyThird (spanOf span) ⌝ }
+{
+    span.index / 16 + 16777216 * (span.len / 256 % 256)
+}
+
+fn pack_small(out: &mut [u8], at: usize, span: PackedSpan, extra: u32) -> Packed
+    requires { ⌜ extra ≤ 3 ⌝ }
+    ensures { λ r. ⌜ Stored (now (out .entry)) at (wordBytes (firstWord extra 0 (spanOf span))) r (now (out .exit)) ⌝ }
+{
+    if room(out.len(), at) < 4 {
+        return Packed::Refused(6);
+    }
+    put_word(out, at, first_word(extra, 0, span));
+    Packed::Written(4)
+}
+
+fn pack_extended(out: &mut [u8], at: usize, span: PackedSpan, extra: u32) -> Packed
+    requires { ⌜ (extra ≤ 3) × (span .index < 32768) × (span .start < 134217728) × (span .len < 262144) ⌝ }
+    ensures { λ r. ⌜ Stored (now (out .entry)) at (extendedBytes extra (spanOf span)) r (now (out .exit)) ⌝ }
+{
+    if room(out.len(), at) < 8 {
+        return Packed::Refused(6);
+    }
+    put_word(out, at, first_word(extra, 1, span));
+    put_word(out, at + 4, second_word(span));
+    Packed::Written(8)
+}
+
+fn pack_heavy(out: &mut [u8], at: usize, span: PackedSpan, extra: u32) -> Packed
+    requires { ⌜ (extra ≤ 3) × (span .index < 268435456) ⌝ }
+    ensures { λ r. ⌜ Stored (now (out .entry)) at (heavyBytes extra (spanOf span)) r (now (out .exit)) ⌝ }
+{
+    if room(out.len(), at) < 12 {
+        return Packed::Refused(6);
+    }
+    put_word(out, at, first_word(extra, 1, span));
+    put_word(out, at + 4, heavy_second(span));
+    put_word(out, at + 8, heavy_third(span));
+    Packed::Written(12)
+}
+
+// Packs a span that has passed rows 2 and 8 in the form that it is to have.
+fn pack_form(out: &mut [u8], at: usize, span: PackedSpan, extra: u32, heavy: bool) -> Packed
+    requires { ⌜ (extra ≤ 3) × (span .index < 268435456) ⌝ }
+    ensures { λ r. ⌜ Stored (now (out .entry)) at (spanForm heavy extra (spanOf span)) r (now (out .exit)) ⌝ }
+{
+    if heavy {
+        return pack_heavy(out, at, span, extra);
+    }
+    if is_small(span) {
+        return pack_small(out, at, span, extra);
+    }
+    if is_extended(span) {
+        return pack_extended(out, at, span, extra);
+    }
+    pack_heavy(out, at, span, extra)
+}
+
+// Packs a span at a place in its smallest form, or in the largest where that is forced.
+pub fn encode_span_no_map(
+    out: &mut [u8],
+    at: usize,
+    span: PackedSpan,
+    extra: u32,
+    heavy: bool,
+) -> Packed
+    ensures { λ r. ⌜ SpanPacked (now (out .entry)) at heavy extra (spanOf span) r (now (out .exit)) ⌝ }
+{
+    if 3 < extra {
+        return Packed::Refused(2);
+    }
+    if 4294967295 - span.start < span.len {
+        return Packed::Refused(2);
+    }
+    if 268435456 <= span.index {
+        return Packed::Refused(8);
+    }
+    pack_form(out, at, span, extra, heavy)
+}
