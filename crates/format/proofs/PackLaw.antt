@@ -16,16 +16,13 @@ use Rattle.format.specs.Write.{heavyBytes, spanBytes, symbolBytes}
 use Rattle.format.specs.Pack.{roomFor, spanForm, packSpan, spanPacked, packSymbol, symbolPacked}
 use Rattle.format.proofs.Each.{both, rule-passed}
 use Rattle.format.proofs.Holds.{Holds}
+use Rattle.format.proofs.WriteSize.{heavy-size}
 use Rattle.format.proofs.Put.{put-holds}
 use Rattle.format.proofs.SpanBack.{Packable, heavy-back, span-back, symbol-back}
 
 module _ (out : List ℕ) (at : ℕ) where
-  heavy-length : (x : ℕ) (s : Span) → length (heavyBytes x s) ≡ 12
-  unfolding heavyBytes
-  heavy-length x s = refl
-
   form-back : (b : List ℕ) (heavy : Bool) (x : ℕ) (s : Span) → x < 4 → Packable s → Holds b at (spanForm heavy x s) → spanAt b at ≡ span x s (at + length (spanForm heavy x s))
-  form-back b true x s hx k h = rw (heavy-length x s) (heavy-back b at x s hx k h)
+  form-back b true x s hx k h = rw (heavy-size x s) (heavy-back b at x s hx k h)
   form-back b false x s hx k h = span-back b at x s hx k h
 
   pub span-packed : (heavy : Bool) (extra : ℕ) (s : Span) → packSpan out at heavy extra s ≡ passed

@@ -1,11 +1,10 @@
 -- Document 01's table of refusals: the example of each row, and cases beside it, computed by the checker.
 use Prim.Native.Nat.{ℕ, zero, suc, _+_, _-_, _≤_, _<_}
 use mathlib.Core.Bool.{true, false}
-use mathlib.Core.Logic.{_⊎_, inl, inr, ⊎-elim}
+use mathlib.Core.Logic.{⊎-elim}
 use mathlib.Core.Path.{_≡_, refl, ap, _∙_}
 use mathlib.Core.List.{List, [], _∷_, _++_}
 use native.Mathlib.Omega.{arith}
-use native.Mathlib.Decide.{decLt}
 use lib.ListN.{take, replicate}
 use Rattle.format.specs.Verdict.{passed, refused, wrote, refusal, eachFrom}
 use Rattle.format.specs.Word.{wordAt, halfAt, put}
@@ -22,6 +21,7 @@ use Rattle.format.specs.WordList.{rawFrom, listRules}
 use Rattle.format.specs.Writer.{find, raws, listVerdict, writerVerdict, writerReport, workAfter, outAfter}
 use Rattle.format.specs.Pack.{packSpan, packSymbol, spanPacked, spanReport, symbolReport}
 use Rattle.format.specs.Write.{spanBytes, symbolBytes}
+use Rattle.format.proofs.Tally.{lt-or-le}
 use Rattle.format.proofs.NestRun.{run-done, run-four, run-sub, nest-as-run}
 use Rattle.format.proofs.Worked.{spanOf, loneRoot, twoParts, rootWords, plus, parens}
 use Rattle.format.proofs.Samples.{threeParts}
@@ -83,9 +83,6 @@ deep-enough n (suc d) m h = ⊎-elim
     let j : suc d - 1 ≡ d = omega arith in
     run-sub wordShape (nested n) m n (suc d) l refl (omega arith) (omega arith) ∙ rw (e, j, deep-enough n d (m + 1) (omega arith), run-done wordShape (nested n) n n (suc d) (omega arith)))
     (λ l. run-done wordShape (nested n) m n (suc d) l) (lt-or-le m n)
-  where
-    lt-or-le : (a b : ℕ) → (a < b) ⊎ (b ≤ a)
-    lt-or-le a b = elim (decLt a b) [ yes h ↦ inl h | no k ↦ inr (omega arith) ]
 
 -- 4: "257 nested subtrees"; 256 pass
 row-4 : (nest wordShape (nested 257) ≡ refused 4 256) × (nest wordShape (nested 256) ≡ passed)

@@ -12,6 +12,7 @@ use Rattle.format.specs.Reader.{Shape, Reader, Reply, got, bad}
 use Rattle.format.specs.Plain.{endOf, sub}
 use Rattle.format.specs.Nest.{stillOpen, innermost, nestFrom, nest}
 use Rattle.format.specs.Check.{nextOf, kidsOf, treeOf, placeOf, reading, listing, stored, verdictOf, readRule, honestRule, check}
+use Rattle.format.proofs.Each.{true-false}
 use Rattle.format.proofs.CheckLaw.{next-place}
 use Rattle.format.specs.Descent.{LeafAt, SubtreeAt}
 use Rattle.format.specs.Sight.{Sight, leaf, subtree, unread, sight, Alike}
@@ -73,10 +74,7 @@ module _ {Tree : Type 0} (S : Shape Tree) (R : Reader Tree) (flat : S .isSub (S 
 
   see-count : (q : Reply Tree) → S .isSub (treeOf S R q) ≡ true → S .count (treeOf S R q) ≡ countSeen (sight S q)
   unfolding sight
-  see-count (bad r) e = absurd (not-both (S .isSub (S .blank)) e flat)
-    where
-      not-both : (c : Bool) → c ≡ true → c ≡ false → ⊥
-      not-both c e f = let z : _≡_ {A = ℕ} 0 1 = cc in absurd (omega arith)
+  see-count (bad r) e = true-false (S .isSub (S .blank)) e flat
   see-count (got t next kids) e = rw e
 
   see-kids : (q : Reply Tree) → S .isSub (treeOf S R q) ≡ true → kidsOf q ≡ kidsSeen (sight S q)

@@ -1,4 +1,4 @@
-// Packing and reading of one span and of one symbol: all that the crates above know of either is what these functions promise.
+// Packing and reading of one span and of one symbol. The crates above know of either what these functions promise.
 pub mod span;
 pub mod symbol;
 pub mod unchecked;
@@ -12,7 +12,7 @@ pub enum Packed {
     Refused(u32),
 }
 
-// What is left of a run of `len` behind a place: none where the place lies past its end, so that one test serves every place.
+// What is left of a run of `len` behind a place, none where the place lies past its end: one test serves every place.
 fn room(len: usize, at: usize) -> usize
     ensures { λ r. ⌜ r ≡ len - at ⌝ }
 {
