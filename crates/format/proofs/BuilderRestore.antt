@@ -8,18 +8,18 @@ use borrow.Author.Tests.{not-true, not-false, le-leb, le-ltb, eq-eqb, eqb-false,
 use lib.Dec.{eqb, ltb, leb}
 use lib.ListN.{length, take, getD}
 use lib.Seq.{getD-take}
-use Rattle.format.specs.Verdict.{Verdict, passed, _andThen_, rule}
+use Rattle.format.specs.Verdict.{Verdict, passed, refused, _andThen_, rule}
 use Rattle.format.specs.Word.{put}
 use Rattle.format.specs.WordList.{wordOf, listCount}
 use Rattle.format.specs.Root.{WordSpan, rangeFits, fiveWords}
 use Rattle.format.specs.Builder.{Builder, subtreeWords, leafWords, leafFits, subAt, endAt, openFit, disagrees, new, agreed, room, addTree, closeLast, butLast, openBefore, isAmong, pointVerdict, restorePoint, reachesPast, pointFits, restoreVerdict, restored, Step, push, openSubtree, closeSubtree, restore, stepVerdict, stepBuilder, stepWords, builderStep, builderRun, staysInside, builderFrom}
-use Rattle.format.specs.Frames.{Model, modelRun, accepted, modelFrom}
+use Rattle.format.specs.Frames.{Model, modelRun, keptIf, accepted, modelFrom}
 use Rattle.format.proofs.Each.{and₄, true-false, both, rule-passed, all-each}
 use Rattle.format.proofs.Put.{put-length}
 use Rattle.format.proofs.Trees.{take-put}
 use Rattle.format.proofs.Forest.{pass-both}
 use Rattle.format.proofs.Framed.{Below, below-more, all-before}
-use Rattle.format.proofs.BuilderRun.{after-step, agrees, holds-run}
+use Rattle.format.proofs.BuilderRun.{refused-keeps, after-step, agrees, holds-run}
 use Rattle.format.proofs.BuilderBuild.{held, always-agrees, always-within}
 
 -- ---- what it is to agree
@@ -298,3 +298,40 @@ restore-back kind o c l ss ts ok h v =
     let H = holds-run ts (modelFrom kind o c l ss) b r (held kind o c l ss ok) in
     restores b r ts (always-agrees kind o c l ss ok) (always-within kind o c l ss ok) h v
     (agrees (m .root) (m .frames) (builderRun ts b r .builder) (builderRun ts b r .words) H)
+
+-- ---- steps refused in between do not matter
+
+same-run : (ts : List Step) (b : Builder) (l : List ℕ)
+    → (builderRun (accepted ts b l) b l .verdict ≡ passed) × (builderRun (accepted ts b l) b l .builder ≡ builderRun ts b l .builder)
+    × (builderRun (accepted ts b l) b l .words ≡ builderRun ts b l .words)
+unfolding builderRun accepted
+same-run [] b l = (refl, refl, refl)
+same-run (s ∷ ts) b l = go (builderStep s b l .verdict) refl (same-run ts (builderStep s b l .builder) (builderStep s b l .words))
+  where
+    b′ : Builder
+    b′ = builderStep s b l .builder
+
+    l′ : List ℕ
+    l′ = builderStep s b l .words
+
+    Same : List Step → Builder → List ℕ → Type 0
+    Same us c m = (builderRun us c m .verdict ≡ passed) × (builderRun us c m .builder ≡ builderRun ts b′ l′ .builder) × (builderRun us c m .words ≡ builderRun ts b′ l′ .words)
+
+    go : (v : Verdict) → builderStep s b l .verdict ≡ v → Same (accepted ts b′ l′) b′ l′ → Same (keptIf (builderStep s b l .verdict) s (accepted ts b′ l′)) b l
+    go passed e r = rw e (ap (λ v. v andThen builderRun (accepted ts b′ l′) b′ l′ .verdict) e ∙ r .0, r .1, r .2)
+    go (refused x n) e r =
+        let k = refused-keeps s b l x n e in
+        rw e (subst (λ m. Same (accepted ts b′ l′) b m) (k .1) (subst (λ c. Same (accepted ts b′ l′) c l′) (k .0) r))
+
+-- RESTORE, whatever was refused since the point
+pub restore-after : (kind : ℕ) (o c : WordSpan) (l : List ℕ) (ss ts : List Step) → new kind o c l .verdict ≡ passed
+    → staysInside 0 (accepted ts (builderFrom kind o c l ss .builder) (builderFrom kind o c l ss .words)) ≡ true
+    → Restored (builderFrom kind o c l ss .builder) (builderFrom kind o c l ss .words)
+    (builderRun ts (builderFrom kind o c l ss .builder) (builderFrom kind o c l ss .words) .builder)
+    (builderRun ts (builderFrom kind o c l ss .builder) (builderFrom kind o c l ss .words) .words)
+restore-after kind o c l ss ts ok h =
+    let b : Builder = builderFrom kind o c l ss .builder in
+    let r : List ℕ = builderFrom kind o c l ss .words in
+    let s = same-run ts b r in
+    let R = restore-back kind o c l ss (accepted ts b r) ok h (s .0) in
+    subst (λ m. Restored b r (builderRun ts b r .builder) m) (s .2) (subst (λ x. Restored b r x (builderRun (accepted ts b r) b r .words)) (s .1) R)
