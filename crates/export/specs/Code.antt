@@ -1,0 +1,68 @@
+-- Replies in one number, and what reading leaves in lent words.
+use Prim.Native.Nat.{ℕ, _+_}
+use mathlib.Core.Path.{_≡_}
+use mathlib.Core.Bool.{Bool}
+use mathlib.Core.List.{List, [], _∷_}
+use lib.Dec.{ltb}
+use lib.ListN.{length}
+use Rattle.format.specs.Test.{if_then_else_}
+use Rattle.format.specs.Word.{put}
+use Rattle.format.specs.Span.{Span, spanAt, symbolAt}
+use Rattle.format.specs.Pack.{spanReport, spanPacked, symbolReport, symbolPacked}
+use Rattle.pack.specs.Answer.{packedAnswer, spanAnswer, symbolAnswer}
+use Rattle.pack.specs.declared.Packed.{Packed}
+use Rattle.pack.specs.declared.Packed.the-variants.{Written, Refused}
+use Rattle.pack.specs.declared.span.SpanAt.{SpanAt}
+use Rattle.pack.specs.declared.span.SpanRead.{SpanRead}
+use Rattle.pack.specs.declared.span.SpanRead.the-variants as spans
+use Rattle.pack.specs.declared.symbol.SymbolAt.{SymbolAt}
+use Rattle.pack.specs.declared.symbol.SymbolRead.{SymbolRead}
+use Rattle.pack.specs.declared.symbol.SymbolRead.the-variants as symbols
+
+-- a refusal's number, out of the way of every length and place
+abbrev pub refusalCode : ℕ → ℕ
+refusalCode k = 9223372036854775808 + k
+
+abbrev pub codeOf : Packed → ℕ
+codeOf (Written n) = n
+codeOf (Refused k) = refusalCode k
+
+pub record SpanStored (b : List ℕ) (at : ℕ) (heavy : Bool) (extra : ℕ) (s : Span) (r : ℕ) (b′ : List ℕ) : Type 0 where
+  pub reply : r ≡ codeOf (packedAnswer (spanReport b at heavy extra s))
+  pub contents : b′ ≡ spanPacked b at heavy extra s
+
+pub record SymbolStored (b : List ℕ) (at tag i : ℕ) (r : ℕ) (b′ : List ℕ) : Type 0 where
+  pub reply : r ≡ codeOf (packedAnswer (symbolReport b at tag i))
+  pub contents : b′ ≡ symbolPacked b at tag i
+
+-- what is read, as words
+abbrev pub spanWords : SpanAt → List ℕ
+spanWords y = y .span .index ∷ y .span .start ∷ y .span .len ∷ y .extra ∷ []
+
+abbrev pub symbolWords : SymbolAt → List ℕ
+symbolWords y = y .index ∷ y .tag ∷ []
+
+abbrev pub spanCode : SpanRead → ℕ
+spanCode (spans.Read y) = y .next
+spanCode spans.Short = refusalCode 7
+
+abbrev pub spanLeft : List ℕ → SpanRead → List ℕ
+spanLeft w (spans.Read y) = put w 0 (spanWords y)
+spanLeft w spans.Short = w
+
+abbrev pub symbolCode : SymbolRead → ℕ
+symbolCode (symbols.Read y) = y .next
+symbolCode symbols.Short = refusalCode 7
+
+abbrev pub symbolLeft : List ℕ → SymbolRead → List ℕ
+symbolLeft w (symbols.Read y) = put w 0 (symbolWords y)
+symbolLeft w symbols.Short = w
+
+-- too few words are 6
+pub record SpanFound (b : List ℕ) (at : ℕ) (w : List ℕ) (r : ℕ) (w′ : List ℕ) : Type 0 where
+  pub reply : r ≡ (if ltb (length w) 4 then refusalCode 6 else spanCode (spanAnswer (spanAt b at)))
+  pub contents : w′ ≡ (if ltb (length w) 4 then w else spanLeft w (spanAnswer (spanAt b at)))
+
+pub record SymbolFound (b : List ℕ) (at : ℕ) (w : List ℕ) (r : ℕ) (w′ : List ℕ) : Type 0 where
+  pub reply : r ≡ (if ltb (length w) 2 then refusalCode 6 else symbolCode (symbolAnswer (symbolAt b at)))
+  pub contents : w′ ≡ (if ltb (length w) 2 then w else symbolLeft w (symbolAnswer (symbolAt b at)))

@@ -1,0 +1,2 @@
+// Functions on slices of numbers, for tests and benchmarks from Rust or C.
+pub mod packing;
