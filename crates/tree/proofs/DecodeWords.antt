@@ -1,0 +1,73 @@
+-- The list words of the source's tree are those of the tree with indices.
+use Prim.Native.Nat.{ℕ, zero, suc, _+_, _*_, _≤_, _<_}
+use mathlib.Core.Bool.{Bool, true, false, _&&_, _||_}
+use mathlib.Core.Path.{_≡_, refl, sym, ap, _∙_}
+use mathlib.Core.List.{List, [], _∷_, _++_}
+use native.Mathlib.Omega.{arith}
+use borrow.Author.Tests.{leb-true, eqb-true}
+use lib.Dec.{leb, eqb}
+use lib.ListN.{getD}
+use Rattle.format.specs.Test.{if_then_else_}
+use Rattle.format.specs.Span as format
+use Rattle.format.specs.Tree.{Raw, punct, ident, literal, subtree}
+use Rattle.format.specs.Fields.{spanFits, isScalar, isRawKind, fields}
+use Rattle.format.specs.Tables.{treeWords}
+use Rattle.format.proofs.Each.{and-left, and-right}
+use Rattle.tree.specs.Types.{spacingOf, isRawOf, delimiterOf, litKindOf, resolved, spacingWord, isRawWord, delimiterWord, litKindWord, treeWordsOf}
+
+pub spacing-again : (x : ℕ) → x ≤ 2 → spacingWord (spacingOf x) ≡ x
+unfolding spacingWord spacingOf
+spacing-again zero h = refl
+spacing-again (suc zero) h = refl
+spacing-again (suc (suc zero)) h = refl
+spacing-again (suc (suc (suc x))) h = absurd (omega arith)
+
+pub is-raw-again : (x : ℕ) → x ≤ 1 → isRawWord (isRawOf x) ≡ x
+unfolding isRawWord isRawOf
+is-raw-again zero h = refl
+is-raw-again (suc zero) h = refl
+is-raw-again (suc (suc x)) h = absurd (omega arith)
+
+pub delimiter-again : (x : ℕ) → x ≤ 3 → delimiterWord (delimiterOf x) ≡ x
+unfolding delimiterWord delimiterOf
+delimiter-again zero h = refl
+delimiter-again (suc zero) h = refl
+delimiter-again (suc (suc zero)) h = refl
+delimiter-again (suc (suc (suc zero))) h = refl
+delimiter-again (suc (suc (suc (suc x)))) h = absurd (omega arith)
+
+no-count : (k r : ℕ) → eqb r 0 ≡ true → k ≡ k + 256 * r
+no-count k r e = let z : r ≡ 0 = eqb-true r 0 e in omega arith
+
+pub kind-again : (k r : ℕ) → k ≤ 10 → (if isRawKind k then leb r 255 else eqb r 0) ≡ true → litKindWord (litKindOf k r) ≡ k + 256 * r
+unfolding litKindWord litKindOf
+kind-again zero r h e = no-count 0 r e
+kind-again (suc zero) r h e = no-count 1 r e
+kind-again (suc (suc zero)) r h e = no-count 2 r e
+kind-again (suc (suc (suc zero))) r h e = no-count 3 r e
+kind-again (suc (suc (suc (suc zero)))) r h e = no-count 4 r e
+kind-again (suc (suc (suc (suc (suc zero))))) r h e = refl
+kind-again (suc (suc (suc (suc (suc (suc zero)))))) r h e = no-count 6 r e
+kind-again (suc (suc (suc (suc (suc (suc (suc zero))))))) r h e = refl
+kind-again (suc (suc (suc (suc (suc (suc (suc (suc zero)))))))) r h e = no-count 8 r e
+kind-again (suc (suc (suc (suc (suc (suc (suc (suc (suc zero))))))))) r h e = refl
+kind-again (suc (suc (suc (suc (suc (suc (suc (suc (suc (suc zero)))))))))) r h e = no-count 10 r e
+kind-again (suc (suc (suc (suc (suc (suc (suc (suc (suc (suc (suc k))))))))))) r h e = absurd (omega arith)
+
+pub resolved-words : (parts symbols : List ℕ) (t : Raw) → fields t ≡ true → treeWordsOf (resolved parts symbols t) ≡ treeWords parts symbols t
+unfolding treeWordsOf resolved treeWords
+resolved-words parts symbols (punct s c x) e =
+    let h : x ≤ 2 = leb-true x 2 (and-right (spanFits s && isScalar c) (leb x 2) e) in
+    rw (spacing-again x h)
+resolved-words parts symbols (ident s i r) e =
+    let h : r ≤ 1 = leb-true r 1 (and-right (spanFits s) (leb r 1) e) in
+    rw (is-raw-again r h)
+resolved-words parts symbols (literal s i k r x) e =
+    let c : Bool = if isRawKind k then leb r 255 else eqb r 0 in
+    let f = and-left (spanFits s && leb k 10 && c) (leb x 255) e in
+    let g : c ≡ true = and-right (spanFits s && leb k 10) c f in
+    let h : k ≤ 10 = leb-true k 10 (and-right (spanFits s) (leb k 10) (and-left (spanFits s && leb k 10) c f)) in
+    rw (kind-again k r h g)
+resolved-words parts symbols (subtree s t n d) e =
+    let h : d ≤ 3 = leb-true d 3 (and-right (spanFits s && spanFits t) (leb d 3) e) in
+    rw (delimiter-again d h)

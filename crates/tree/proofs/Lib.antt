@@ -1,0 +1,15 @@
+pub mod ReadFields
+pub mod ReadForms
+pub mod ReadUse
+pub mod JudgeReturns
+pub mod JudgeUse
+pub mod DecodeWords
+pub mod DecodeReturns
+pub mod DecodeUse
+pub mod SizeReturns
+pub mod EncodeReturns
+pub mod EncodePut
+pub mod EncodeForms
+pub mod EncodeTree
+pub mod WordsReturns
+pub mod EncodeUse

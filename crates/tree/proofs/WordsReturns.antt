@@ -1,0 +1,148 @@
+-- One law for each return of the functions of src/words.rt, with premises as the code's tests and calls give them.
+use Prim.Native.Nat.{ℕ, _+_, _*_, _/_, _%_, _<_, _≤_}
+use mathlib.Core.Bool.{Bool, true, false, not, _&&_, _||_}
+use mathlib.Core.Path.{_≡_, refl, sym, ap, _∙_}
+use mathlib.Core.List.{List}
+use native.Mathlib.Omega.{arith}
+use borrow.Author.Tests.{le-leb, lt-leb, eq-eqb, ne-eqb, not-true, not-false}
+use lib.Dec.{leb, eqb}
+use lib.ListN.{length, getD, List·getD-eq-default}
+use Rattle.format.specs.Test.{if_then_else_}
+use Rattle.format.specs.Tree.{Raw, punct, ident, literal, subtree}
+use Rattle.format.specs.Fields.{fields}
+use Rattle.format.specs.WordList.{wordOf, rawFrom, noClose, wordFields}
+use Rattle.pack.specs.declared.span.PackedSpan.{PackedSpan}
+use Rattle.tree.specs.Raw.{rawTree, rawOf}
+use Rattle.tree.specs.declared.raw.RawTree.{RawTree}
+use Rattle.tree.specs.declared.raw.RawTree.the-variants.{Punct, Ident, Literal, Subtree}
+
+-- ---- one word
+
+module _ (l : List ℕ) (n j : ℕ) where
+  pub word-past : length l / 13 < n → 0 ≡ wordOf l n j
+  word-past h = sym (List·getD-eq-default l 0 {n = 13 * n + j} (omega arith))
+
+  pub word-end : length l ≤ 13 * n + j → 0 ≡ wordOf l n j
+  word-end h = sym (List·getD-eq-default l 0 {n = 13 * n + j} h)
+
+pub span-words : (i s t : ℕ) (x y : ℕ) → x ≡ s → y ≡ t → _≡_ {A = PackedSpan} (record { index = i; start = x; len = y }) (record { index = i; start = s; len = t })
+span-words i s t x y e f = rw (e, f)
+
+-- ---- the tree
+
+-- a tree with indices is the definitions' one again
+pub raw-back : (t : Raw) → rawOf (rawTree t) ≡ t
+unfolding rawOf rawTree
+raw-back (punct s c x) = refl
+raw-back (ident s i r) = refl
+raw-back (literal s i k r x) = refl
+raw-back (subtree s t n d) = refl
+
+-- what a caller learns: the tree of the answer
+pub words-raw : (l : List ℕ) (n o c y : ℕ) (r : RawTree) → r ≡ rawTree (rawFrom o c y (wordOf l n)) → rawOf r ≡ rawFrom o c y (wordOf l n)
+words-raw l n o c y r e = ap rawOf e ∙ raw-back (rawFrom o c y (wordOf l n))
+
+module _ (l : List ℕ) (n o c y w₀ : ℕ) (e₀ : w₀ ≡ wordOf l n 0) (p : PackedSpan) (f : p ≡ record { index = o; start = wordOf l n 6; len = wordOf l n 7 }) where
+  pub words-punct : w₀ ≡ 0 → (w₁ w₂ : ℕ) → w₁ ≡ wordOf l n 1 → w₂ ≡ wordOf l n 2 → Punct (record { span = p; char = w₁; spacing = w₂ }) ≡ rawTree (rawFrom o c y (wordOf l n))
+  unfolding rawTree rawFrom
+  words-punct h w₁ w₂ e₁ e₂ =
+      let z : eqb (wordOf l n 0) 0 ≡ true = eq-eqb _ _ (sym e₀ ∙ h) in
+      rw (f, e₁, e₂) (simp z)
+
+  module _ (g₀ : w₀ ≡ 0 → ⊥) where
+    not-0 : eqb (wordOf l n 0) 0 ≡ false
+    not-0 = ne-eqb _ _ (λ q. g₀ (e₀ ∙ q))
+
+    pub words-ident : w₀ ≡ 1 → (w₂ : ℕ) → w₂ ≡ wordOf l n 2 → Ident (record { span = p; symbol = y; raw = w₂ }) ≡ rawTree (rawFrom o c y (wordOf l n))
+    unfolding rawTree rawFrom
+    words-ident h w₂ e₂ =
+        let z : eqb (wordOf l n 0) 1 ≡ true = eq-eqb _ _ (sym e₀ ∙ h) in
+        rw (f, e₂) (simp (not-0, z))
+
+    module _ (g₁ : w₀ ≡ 1 → ⊥) where
+      not-1 : eqb (wordOf l n 0) 1 ≡ false
+      not-1 = ne-eqb _ _ (λ q. g₁ (e₀ ∙ q))
+
+      pub words-literal : w₀ ≡ 2 → (w₂ : ℕ) → w₂ ≡ wordOf l n 2
+          → Literal (record { span = p; symbol = y; kind = w₂ % 256; «raw_count» = w₂ / 256 % 256; «suffix_len» = w₂ / 65536 }) ≡ rawTree (rawFrom o c y (wordOf l n))
+      unfolding rawTree rawFrom
+      words-literal h w₂ e₂ =
+          let z : eqb (wordOf l n 0) 2 ≡ true = eq-eqb _ _ (sym e₀ ∙ h) in
+          rw (f, e₂) (simp (not-0, not-1, z))
+
+      pub words-subtree : (w₀ ≡ 2 → ⊥) → (w₁ w₂ : ℕ) → w₁ ≡ wordOf l n 1 → w₂ ≡ wordOf l n 2 → (q : PackedSpan) → q ≡ record { index = c; start = wordOf l n 11; len = wordOf l n 12 }
+          → Subtree (record { opening = p; closing = q; len = record { 0 = w₁ }; kind = w₂ }) ≡ rawTree (rawFrom o c y (wordOf l n))
+      unfolding rawTree rawFrom
+      words-subtree h w₁ w₂ e₁ e₂ q k =
+          let z : eqb (wordOf l n 0) 2 ≡ false = ne-eqb _ _ (λ i. h (e₀ ∙ i)) in
+          rw (f, k, e₁, e₂) (simp (not-0, not-1, z))
+
+pub ruleset raw-words-cases = (word-past, word-end, span-words, words-punct, words-ident, words-literal, words-subtree)
+
+-- ---- row 2
+
+module _ (l : List ℕ) (n x₁ : ℕ) (e₁ : x₁ ≡ wordOf l n 8) where
+  pub close-8 : (x₁ ≡ 0 → ⊥) → false ≡ noClose (wordOf l n)
+  close-8 h = let a : eqb (wordOf l n 8) 0 ≡ false = ne-eqb _ _ (λ i. h (e₁ ∙ i)) in simp a
+
+  module _ (h₁ : x₁ ≡ 0) (x₂ : ℕ) (e₂ : x₂ ≡ wordOf l n 9) where
+    zero-8 : eqb (wordOf l n 8) 0 ≡ true
+    zero-8 = eq-eqb _ _ (sym e₁ ∙ h₁)
+
+    pub close-9 : (x₂ ≡ 0 → ⊥) → false ≡ noClose (wordOf l n)
+    close-9 h = let a : eqb (wordOf l n 9) 0 ≡ false = ne-eqb _ _ (λ i. h (e₂ ∙ i)) in simp (zero-8, a)
+
+    module _ (h₂ : x₂ ≡ 0) (x₃ : ℕ) (e₃ : x₃ ≡ wordOf l n 10) where
+      zero-9 : eqb (wordOf l n 9) 0 ≡ true
+      zero-9 = eq-eqb _ _ (sym e₂ ∙ h₂)
+
+      pub close-10 : (x₃ ≡ 0 → ⊥) → false ≡ noClose (wordOf l n)
+      close-10 h = let a : eqb (wordOf l n 10) 0 ≡ false = ne-eqb _ _ (λ i. h (e₃ ∙ i)) in simp (zero-8, zero-9, a)
+
+      module _ (h₃ : x₃ ≡ 0) (x₄ : ℕ) (e₄ : x₄ ≡ wordOf l n 11) where
+        zero-10 : eqb (wordOf l n 10) 0 ≡ true
+        zero-10 = eq-eqb _ _ (sym e₃ ∙ h₃)
+
+        pub close-11 : (x₄ ≡ 0 → ⊥) → false ≡ noClose (wordOf l n)
+        close-11 h = let a : eqb (wordOf l n 11) 0 ≡ false = ne-eqb _ _ (λ i. h (e₄ ∙ i)) in simp (zero-8, zero-9, zero-10, a)
+
+        module _ (h₄ : x₄ ≡ 0) (x₅ : ℕ) (e₅ : x₅ ≡ wordOf l n 12) where
+          zero-11 : eqb (wordOf l n 11) 0 ≡ true
+          zero-11 = eq-eqb _ _ (sym e₄ ∙ h₄)
+
+          pub close-12 : (x₅ ≡ 0 → ⊥) → false ≡ noClose (wordOf l n)
+          close-12 h = let a : eqb (wordOf l n 12) 0 ≡ false = ne-eqb _ _ (λ i. h (e₅ ∙ i)) in simp (zero-8, zero-9, zero-10, zero-11, a)
+
+          pub close-none : x₅ ≡ 0 → true ≡ noClose (wordOf l n)
+          close-none h = let a : eqb (wordOf l n 12) 0 ≡ true = eq-eqb _ _ (sym e₅ ∙ h) in simp (zero-8, zero-9, zero-10, zero-11, a)
+
+pub ruleset close-cases = (close-8, close-9, close-10, close-11, close-12, close-none)
+
+module _ (l : List ℕ) (n w₀ : ℕ) (e₀ : w₀ ≡ wordOf l n 0) where
+  pub sort-2 : 3 < w₀ → false ≡ wordFields (wordOf l n)
+  sort-2 h = let a : leb (wordOf l n 0) 3 ≡ false = lt-leb (wordOf l n 0) 3 (omega arith) in simp a
+
+  module _ (h : w₀ ≤ 3) (t : RawTree) (f : t ≡ rawTree (rawFrom 0 0 0 (wordOf l n))) (y : Bool) (g : y ≡ fields (rawOf t)) where
+    low : leb (wordOf l n 0) 3 ≡ true
+    low = le-leb (wordOf l n 0) 3 (omega arith)
+
+    same : y ≡ fields (rawFrom 0 0 0 (wordOf l n))
+    same = g ∙ ap fields (words-raw l n 0 0 0 t f)
+
+    pub tree-fields-2 : not y ≡ true → false ≡ wordFields (wordOf l n)
+    tree-fields-2 k = let a : fields (rawFrom 0 0 0 (wordOf l n)) ≡ false = sym same ∙ not-true y k in simp (low, a)
+
+    module _ (k : not y ≡ false) where
+      pub subtree-words : w₀ ≡ 3 → true ≡ wordFields (wordOf l n)
+      subtree-words i =
+          let a : fields (rawFrom 0 0 0 (wordOf l n)) ≡ true = sym same ∙ not-false y k in
+          let z : eqb (wordOf l n 0) 3 ≡ true = eq-eqb _ _ (sym e₀ ∙ i) in
+          simp (low, a, z)
+
+      pub leaf-words : (w₀ ≡ 3 → ⊥) → (v : Bool) → v ≡ noClose (wordOf l n) → v ≡ wordFields (wordOf l n)
+      leaf-words i v q =
+          let a : fields (rawFrom 0 0 0 (wordOf l n)) ≡ true = sym same ∙ not-false y k in
+          let z : eqb (wordOf l n 0) 3 ≡ false = ne-eqb _ _ (λ j. i (e₀ ∙ j)) in
+          q ∙ simp (low, a, z)
+
+pub ruleset words-cases = (raw-words-cases, close-cases, sort-2, tree-fields-2, subtree-words, leaf-words)

@@ -1,0 +1,75 @@
+use borrow.Author.Needs.{needs}
+use Rattle.tree.proofs.SizeReturns.{size-cases}
+use Rattle.tree.proofs.size.tree_size.Statement.{statement}
+use Rattle.tree.proofs.size.tree_size.Tie as tie
+use Rattle.tree.proofs.size.tree_size.Reads as reads
+use Rattle.tree.proofs.size.tree_size.Lts as lts
+use Rattle.tree.proofs.size.ident_size.Reads as ident-size-reads
+use Rattle.tree.proofs.size.literal_size.Reads as literal-size-reads
+use Rattle.tree.proofs.size.punct_size.Reads as punct-size-reads
+use Rattle.tree.proofs.size.subtree_size.Reads as subtree-size-reads
+
+-- src/size.rt:268:24
+enum-known-tree : tie.Need-enum-known-tree
+enum-known-tree c = search (needs, size-cases)
+
+-- src/size.rt:268:30
+punct-size-requires : tie.Need-punct-size-requires
+punct-size-requires c κs = search (needs, size-cases)
+
+-- src/size.rt:269:24
+enum-known-tree-2 : tie.Need-enum-known-tree-2
+enum-known-tree-2 c = search (needs, size-cases)
+
+-- src/size.rt:269:30
+ident-size-requires : tie.Need-ident-size-requires
+ident-size-requires c κs = search (needs, size-cases)
+
+-- src/size.rt:270:26
+enum-known-tree-3 : tie.Need-enum-known-tree-3
+enum-known-tree-3 c = search (needs, size-cases)
+
+-- src/size.rt:270:32
+literal-size-requires : tie.Need-literal-size-requires
+literal-size-requires c κs = search (needs, size-cases)
+
+-- src/size.rt:271:26
+enum-known-tree-4 : tie.Need-enum-known-tree-4
+enum-known-tree-4 c = search (needs, size-cases)
+
+-- src/size.rt:271:32
+subtree-size-requires : tie.Need-subtree-size-requires
+subtree-size-requires c κs = search (needs, size-cases)
+
+-- src/size.rt:264:1
+returns : tie.Need-returns
+returns c = search (needs, size-cases)
+
+-- src/size.rt:264:1
+returns-2 : tie.Need-returns-2
+returns-2 c = search (needs, size-cases)
+
+-- src/size.rt:264:1
+returns-3 : tie.Need-returns-3
+returns-3 c = search (needs, size-cases)
+
+-- src/size.rt:264:1
+returns-4 : tie.Need-returns-4
+returns-4 c = search (needs, size-cases)
+
+pub tree-size-spec : {M : Type 1} → statement M
+tree-size-spec =
+    tie.close
+    (tie.spec
+    enum-known-tree
+    punct-size-requires
+    enum-known-tree-2
+    ident-size-requires
+    enum-known-tree-3
+    literal-size-requires
+    enum-known-tree-4
+    subtree-size-requires
+    returns
+    returns-2
+    returns-3
+    returns-4)

@@ -1,0 +1,4 @@
+pub mod Raw
+pub mod Types
+pub mod Decode
+pub mod Encode

@@ -1,0 +1,119 @@
+-- The source's tree of a tree with indices, by the entries of the tables, and the list words of such a tree.
+use Prim.Native.Nat.{ℕ, _+_, _*_}
+use mathlib.Core.List.{List, [], _∷_, _++_}
+use lib.ListN.{getD}
+use lib.Dec.{eqb}
+use Rattle.format.specs.Test.{if_then_else_}
+use Rattle.format.specs.Span as format
+use Rattle.format.specs.Tree.{Raw, punct, ident, literal, subtree}
+use Rattle.tree.specs.declared.types.Span.{Span}
+use Rattle.tree.specs.declared.types.Spacing.{Spacing}
+use Rattle.tree.specs.declared.types.Spacing.the-variants.{Alone, Joint, JointHidden}
+use Rattle.tree.specs.declared.types.IdentIsRaw.{IdentIsRaw}
+use Rattle.tree.specs.declared.types.IdentIsRaw.the-variants.{No, Yes}
+use Rattle.tree.specs.declared.types.DelimiterKind.{DelimiterKind}
+use Rattle.tree.specs.declared.types.DelimiterKind.the-variants.{Parenthesis, Brace, Bracket, Invisible}
+use Rattle.tree.specs.declared.types.LitKind.{LitKind}
+use Rattle.tree.specs.declared.types.LitKind.the-variants.{Byte, Char, Integer, Float, Str, StrRaw, ByteStr, ByteStrRaw, CStr, CStrRaw, Err}
+use Rattle.tree.specs.declared.types.Subtree.{Subtree}
+use Rattle.tree.specs.declared.types.Leaf.{Leaf}
+use Rattle.tree.specs.declared.types.Leaf.the-variants as leaves
+use Rattle.tree.specs.declared.types.TokenTree.{TokenTree}
+use Rattle.tree.specs.declared.types.TokenTree.the-variants as trees
+
+-- ---- from numbers that are in range
+
+unfoldable pub spacingOf : ℕ → Spacing
+spacingOf x = if eqb x 0 then Alone else (if eqb x 1 then Joint else JointHidden)
+
+unfoldable pub isRawOf : ℕ → IdentIsRaw
+isRawOf x = if eqb x 0 then No else Yes
+
+unfoldable pub delimiterOf : ℕ → DelimiterKind
+delimiterOf d = if eqb d 0 then Parenthesis else (if eqb d 1 then Brace else (if eqb d 2 then Bracket else Invisible))
+
+-- kind, raw count
+unfoldable pub litKindOf : ℕ → ℕ → LitKind
+litKindOf k r =
+    if eqb k 0 then Byte else
+    (if eqb k 1 then Char else
+    (if eqb k 2 then Integer else
+    (if eqb k 3 then Float else
+    (if eqb k 4 then Str else
+    (if eqb k 5 then StrRaw r else
+    (if eqb k 6 then ByteStr else
+    (if eqb k 7 then ByteStrRaw r else
+    (if eqb k 8 then CStr else
+    (if eqb k 9 then CStrRaw r else Err)))))))))
+
+abbrev pub spanWith : List ℕ → format.Span → Span
+spanWith parts s =
+    record {
+      file = getD parts (3 * s .index) 0;
+      «ast_id» = getD parts (3 * s .index + 1) 0;
+      context = getD parts (3 * s .index + 2) 0;
+      start = s .start;
+      len = s .len;
+    }
+
+abbrev pub punctWith : List ℕ → format.Span → ℕ → ℕ → Leaf
+punctWith parts s c x = leaves.Punct (record { char = c; spacing = spacingOf x; span = spanWith parts s })
+
+abbrev pub identWith : List ℕ → List ℕ → format.Span → ℕ → ℕ → Leaf
+identWith parts symbols s i r = leaves.Ident (record { sym = getD symbols i 0; span = spanWith parts s; «is_raw» = isRawOf r })
+
+abbrev pub literalWith : List ℕ → List ℕ → format.Span → ℕ → ℕ → ℕ → ℕ → Leaf
+literalWith parts symbols s i k r x =
+    leaves.Literal (record { «text_and_suffix» = getD symbols i 0; span = spanWith parts s; kind = litKindOf k r; «suffix_len» = x })
+
+abbrev pub subtreeWith : List ℕ → format.Span → format.Span → ℕ → ℕ → Subtree
+subtreeWith parts s t n d = record { opening = spanWith parts s; closing = spanWith parts t; len = record { 0 = n }; kind = delimiterOf d }
+
+unfoldable pub resolved : List ℕ → List ℕ → Raw → TokenTree
+resolved parts symbols (punct s c x) = trees.Leaf (punctWith parts s c x)
+resolved parts symbols (ident s i r) = trees.Leaf (identWith parts symbols s i r)
+resolved parts symbols (literal s i k r x) = trees.Leaf (literalWith parts symbols s i k r x)
+resolved parts symbols (subtree s t n d) = trees.Subtree (subtreeWith parts s t n d)
+
+-- ---- list words
+
+unfoldable pub spacingWord : Spacing → ℕ
+spacingWord Alone = 0
+spacingWord Joint = 1
+spacingWord JointHidden = 2
+
+unfoldable pub isRawWord : IdentIsRaw → ℕ
+isRawWord No = 0
+isRawWord Yes = 1
+
+unfoldable pub delimiterWord : DelimiterKind → ℕ
+delimiterWord Parenthesis = 0
+delimiterWord Brace = 1
+delimiterWord Bracket = 2
+delimiterWord Invisible = 3
+
+-- kind + 256 × raw count
+unfoldable pub litKindWord : LitKind → ℕ
+litKindWord Byte = 0
+litKindWord Char = 1
+litKindWord Integer = 2
+litKindWord Float = 3
+litKindWord Str = 4
+litKindWord (StrRaw r) = 5 + 256 * r
+litKindWord ByteStr = 6
+litKindWord (ByteStrRaw r) = 7 + 256 * r
+litKindWord CStr = 8
+litKindWord (CStrRaw r) = 9 + 256 * r
+litKindWord Err = 10
+
+abbrev pub spanList : Span → List ℕ
+spanList s = s .file ∷ s .«ast_id» ∷ s .context ∷ s .start ∷ s .len ∷ []
+
+abbrev pub zeros : List ℕ
+zeros = 0 ∷ 0 ∷ 0 ∷ 0 ∷ 0 ∷ []
+
+unfoldable pub treeWordsOf : TokenTree → List ℕ
+treeWordsOf (trees.Leaf (leaves.Punct p)) = 0 ∷ p .char ∷ spacingWord (p .spacing) ∷ spanList (p .span) ++ zeros
+treeWordsOf (trees.Leaf (leaves.Ident p)) = 1 ∷ p .sym ∷ isRawWord (p .«is_raw») ∷ spanList (p .span) ++ zeros
+treeWordsOf (trees.Leaf (leaves.Literal p)) = 2 ∷ p .«text_and_suffix» ∷ (litKindWord (p .kind) + 65536 * p .«suffix_len») ∷ spanList (p .span) ++ zeros
+treeWordsOf (trees.Subtree p) = 3 ∷ p .len .0 ∷ delimiterWord (p .kind) ∷ spanList (p .opening) ++ spanList (p .closing)

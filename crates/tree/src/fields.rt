@@ -1,0 +1,149 @@
+// Row 2 for one tree with indices: whether its fields are in range.
+use crate::raw::RawIdent;
+use crate::raw::RawLiteral;
+use crate::raw::RawPunct;
+use crate::raw::RawSubtree;
+use crate::raw::RawTree;
+use pack::span::PackedSpan;
+ghost use mathlib.Core.Path.{_≡_};
+ghost use lib.Dec.{leb, eqb};
+ghost use Rattle.format.specs.Test.{if_then_else_};
+ghost use Rattle.format.specs.Tree.{punct, ident, literal, subtree};
+ghost use Rattle.format.specs.Fields.{spanFits, isScalar, isRawKind, fields};
+ghost use Rattle.pack.specs.Answer.{spanOf};
+ghost use Rattle.tree.specs.Raw.{rawOf};
+
+fn span_fits(span: PackedSpan) -> bool
+    ensures { λ r. ⌜ r ≡ spanFits (spanOf span) ⌝ }
+{
+    if 4294967295 - span.start < span.len {
+        return false;
+    }
+    true
+}
+
+// A scalar value of Unicode.
+fn is_scalar(c: u32) -> bool
+    ensures { λ r. ⌜ r ≡ isScalar c ⌝ }
+{
+    if c <= 0xD7FF {
+        return true;
+    }
+    if c < 0xE000 {
+        return false;
+    }
+    if 0x10FFFF < c {
+        return false;
+    }
+    true
+}
+
+// The kinds StrRaw, ByteStrRaw and CStrRaw.
+pub fn is_raw_kind(kind: u32) -> bool
+    ensures { λ r. ⌜ r ≡ isRawKind kind ⌝ }
+{
+    match kind {
+        5 => true,
+        7 => true,
+        9 => true,
+        _ => false,
+    }
+}
+
+fn punct_fits(p: RawPunct) -> bool
+    ensures { λ r. ⌜ r ≡ fields (punct (spanOf (p .span)) (p .char) (p .spacing)) ⌝ }
+{
+    let span = p.span;
+    if !span_fits(span) {
+        return false;
+    }
+    if !is_scalar(p.char) {
+        return false;
+    }
+    if 2 < p.spacing {
+        return false;
+    }
+    true
+}
+
+fn ident_fits(p: RawIdent) -> bool
+    ensures { λ r. ⌜ r ≡ fields (ident (spanOf (p .span)) (p .symbol) (p .raw)) ⌝ }
+{
+    let span = p.span;
+    if !span_fits(span) {
+        return false;
+    }
+    if 1 < p.raw {
+        return false;
+    }
+    true
+}
+
+fn is_zero(x: u32) -> bool
+    ensures { λ r. ⌜ r ≡ eqb x 0 ⌝ }
+{
+    match x {
+        0 => true,
+        _ => false,
+    }
+}
+
+fn raw_count_fits(kind: u32, raw_count: u32) -> bool
+    ensures { λ r. ⌜ r ≡ (if isRawKind kind then leb «raw_count» 255 else eqb «raw_count» 0) ⌝ }
+{
+    if !is_raw_kind(kind) {
+        return is_zero(raw_count);
+    }
+    if 255 < raw_count {
+        return false;
+    }
+    true
+}
+
+fn literal_fits(p: RawLiteral) -> bool
+    ensures { λ r. ⌜ r ≡ fields (literal (spanOf (p .span)) (p .symbol) (p .kind) (p .«raw_count») (p .«suffix_len»)) ⌝ }
+{
+    let span = p.span;
+    if !span_fits(span) {
+        return false;
+    }
+    if 10 < p.kind {
+        return false;
+    }
+    if !raw_count_fits(p.kind, p.raw_count) {
+        return false;
+    }
+    if 255 < p.suffix_len {
+        return false;
+    }
+    true
+}
+
+pub fn subtree_fits(p: RawSubtree) -> bool
+    ensures { λ r. ⌜ r ≡ fields (subtree (spanOf (p .opening)) (spanOf (p .closing)) (p .len .0) (p .kind)) ⌝ }
+{
+    let opening = p.opening;
+    let closing = p.closing;
+    if !span_fits(opening) {
+        return false;
+    }
+    if !span_fits(closing) {
+        return false;
+    }
+    if 3 < p.kind {
+        return false;
+    }
+    true
+}
+
+// Whether all fields of a tree are in range.
+pub fn tree_fits(tree: RawTree) -> bool
+    ensures { λ r. ⌜ r ≡ fields (rawOf tree) ⌝ }
+{
+    match tree {
+        RawTree::Punct(p) => punct_fits(p),
+        RawTree::Ident(p) => ident_fits(p),
+        RawTree::Literal(p) => literal_fits(p),
+        RawTree::Subtree(p) => subtree_fits(p),
+    }
+}
