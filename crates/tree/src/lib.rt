@@ -5,6 +5,7 @@ pub mod fields;
 pub mod judge;
 pub mod raw;
 pub mod read;
+pub mod refusal;
 pub mod size;
 pub mod types;
 pub mod words;

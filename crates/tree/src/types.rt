@@ -77,8 +77,3 @@ pub enum TokenTree {
     Leaf(Leaf),
     Subtree(Subtree),
 }
-
-pub struct Refusal {
-    pub number: u32,
-    pub tree: u32,
-}
