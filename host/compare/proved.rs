@@ -1,0 +1,67 @@
+//! The proved functions, through the static library of the crate `export`.
+
+/// A reply at or above this is a refusal; its number is what lies above.
+pub const REFUSED: u64 = 1 << 63;
+
+mod raw {
+    unsafe extern "C" {
+        pub fn tt_encode_span(out: *mut u8, len: usize, at: usize, index: u32, start: u32, length: u32, extra: u32, heavy: bool) -> u64;
+        pub fn tt_encode_symbol(out: *mut u8, len: usize, at: usize, tag: u32, index: u32) -> u64;
+        pub fn tt_decode_span(b: *const u8, len: usize, at: usize, words: *mut u32, room: usize) -> u64;
+        pub fn tt_decode_symbol(b: *const u8, len: usize, at: usize, words: *mut u32, room: usize) -> u64;
+        pub fn tt_decode_tree(
+            b: *const u8, len: usize,
+            parts: *const u32, part_words: usize,
+            symbols: *const u32, symbol_words: usize,
+            n: u32, at: usize,
+            words: *mut u32, room: usize,
+        ) -> u64;
+        pub fn tt_encode_tree(
+            out: *mut u8, len: usize, at: usize,
+            tree: *const u32, words: usize,
+            open: u32, close: u32, symbol: u32, children: u32, root: bool,
+        ) -> u64;
+    }
+}
+
+fn reply(code: u64) -> Result<u64, u64> {
+    if code < REFUSED { Ok(code) } else { Err(code - REFUSED) }
+}
+
+#[inline]
+pub fn encode_span(out: &mut [u8], at: usize, span: [u32; 3], extra: u32, heavy: bool) -> Result<u64, u64> {
+    reply(unsafe { raw::tt_encode_span(out.as_mut_ptr(), out.len(), at, span[0], span[1], span[2], extra, heavy) })
+}
+
+#[inline]
+pub fn encode_symbol(out: &mut [u8], at: usize, tag: u32, index: u32) -> Result<u64, u64> {
+    reply(unsafe { raw::tt_encode_symbol(out.as_mut_ptr(), out.len(), at, tag, index) })
+}
+
+/// Index, start, length and extra bits go to `words`; the place behind is the answer.
+#[inline]
+pub fn decode_span(b: &[u8], at: usize, words: &mut [u32; 4]) -> Result<u64, u64> {
+    reply(unsafe { raw::tt_decode_span(b.as_ptr(), b.len(), at, words.as_mut_ptr(), 4) })
+}
+
+#[inline]
+pub fn decode_symbol(b: &[u8], at: usize, words: &mut [u32; 2]) -> Result<u64, u64> {
+    reply(unsafe { raw::tt_decode_symbol(b.as_ptr(), b.len(), at, words.as_mut_ptr(), 2) })
+}
+
+/// 13 list words and the children bytes go to `words`; the place behind is the answer.
+#[inline]
+pub fn decode_tree(b: &[u8], parts: &[u32], symbols: &[u32], n: u32, at: usize, words: &mut [u32; 14]) -> Result<u64, u64> {
+    reply(unsafe {
+        raw::tt_decode_tree(
+            b.as_ptr(), b.len(), parts.as_ptr(), parts.len(), symbols.as_ptr(), symbols.len(), n, at, words.as_mut_ptr(), 14,
+        )
+    })
+}
+
+/// The tree of 13 list words with its indices: open part, close part, symbol. The bytes written are the answer.
+#[inline]
+pub fn encode_tree(out: &mut [u8], at: usize, tree: &[u32; 13], indices: [u32; 3], children: u32, root: bool) -> Result<u64, u64> {
+    let [open, close, symbol] = indices;
+    reply(unsafe { raw::tt_encode_tree(out.as_mut_ptr(), out.len(), at, tree.as_ptr(), 13, open, close, symbol, children, root) })
+}
