@@ -15,6 +15,7 @@ use Rattle.pack.specs.declared.span.PackedSpan.{PackedSpan}
 use Rattle.tree.specs.Raw.{rawTree, rawOf}
 use Rattle.tree.specs.declared.raw.RawTree.{RawTree}
 use Rattle.tree.specs.declared.raw.RawTree.the-variants.{Punct, Ident, Literal, Subtree}
+use Rattle.tree.proofs.RawAgain.{raw-again}
 
 -- ---- one word
 
@@ -30,17 +31,9 @@ span-words i s t x y e f = rw (e, f)
 
 -- ---- the tree
 
--- a tree with indices is the definitions' one again
-pub raw-back : (t : Raw) → rawOf (rawTree t) ≡ t
-unfolding rawOf rawTree
-raw-back (punct s c x) = refl
-raw-back (ident s i r) = refl
-raw-back (literal s i k r x) = refl
-raw-back (subtree s t n d) = refl
-
 -- what a caller learns: the tree of the answer
 pub words-raw : (l : List ℕ) (n o c y : ℕ) (r : RawTree) → r ≡ rawTree (rawFrom o c y (wordOf l n)) → rawOf r ≡ rawFrom o c y (wordOf l n)
-words-raw l n o c y r e = ap rawOf e ∙ raw-back (rawFrom o c y (wordOf l n))
+words-raw l n o c y r e = ap rawOf e ∙ raw-again (rawFrom o c y (wordOf l n))
 
 module _ (l : List ℕ) (n o c y w₀ : ℕ) (e₀ : w₀ ≡ wordOf l n 0) (p : PackedSpan) (f : p ≡ record { index = o; start = wordOf l n 6; len = wordOf l n 7 }) where
   pub words-punct : w₀ ≡ 0 → (w₁ w₂ : ℕ) → w₁ ≡ wordOf l n 1 → w₂ ≡ wordOf l n 2 → Punct (record { span = p; char = w₁; spacing = w₂ }) ≡ rawTree (rawFrom o c y (wordOf l n))

@@ -1,11 +1,6 @@
-// One tree: its types, and its reading and writing by way of the tree with indices.
-pub mod decode;
-pub mod encode;
+// One tree as a value: its types, row 2 of its fields, and its list words.
 pub mod fields;
-pub mod judge;
 pub mod raw;
-pub mod read;
 pub mod refusal;
-pub mod size;
 pub mod types;
 pub mod words;

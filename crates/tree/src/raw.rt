@@ -1,5 +1,7 @@
 // A tree as it is packed: its spans and its symbol are named by index, its kinds are numbers not yet judged.
 use pack::span::PackedSpan;
+ghost use mathlib.Core.Path.{_≡_};
+ghost use Prim.Native.Nat.{_<_};
 
 // The bytes of all descendants of a subtree, and their number: one cannot be handed where the other is due.
 pub struct ChildrenBytes(pub u32);
@@ -51,4 +53,11 @@ pub enum RawRead {
     Got(RawAt),
     // The refusal's number.
     Bad(u32),
+}
+
+// An index as a place: two more than it is still a place.
+pub fn place(index: u32) -> usize
+    ensures { λ r. ⌜ (r ≡ index) × (r < 4294967296) ⌝ }
+{
+    index as usize
 }

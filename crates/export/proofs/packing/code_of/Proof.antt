@@ -2,30 +2,22 @@ use borrow.Author.Needs.{needs}
 use Rattle.export.proofs.Cases.{export-cases}
 use Rattle.export.proofs.packing.code_of.Statement.{statement}
 use Rattle.export.proofs.packing.code_of.Tie as tie
-use Rattle.export.proofs.packing.code_of.Reads as reads
-use Rattle.export.proofs.packing.code_of.Lts as lts
 
--- src/packing.rt:21:25
 enum-known-p : tie.Need-enum-known-p
 enum-known-p c = search (needs, export-cases)
 
--- src/packing.rt:22:25
 enum-known-p-2 : tie.Need-enum-known-p-2
 enum-known-p-2 c = search (needs, export-cases)
 
--- src/packing.rt:22:54
 cast-result : tie.Need-cast-result
 cast-result c = search (needs, export-cases)
 
--- src/packing.rt:22:31
 add-result : tie.Need-add-result
 add-result c = search (needs, export-cases)
 
--- src/packing.rt:17:1
 returns : tie.Need-returns
 returns c = search (needs, export-cases)
 
--- src/packing.rt:17:1
 returns-2 : tie.Need-returns-2
 returns-2 c = search (needs, export-cases)
 

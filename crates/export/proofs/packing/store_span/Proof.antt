@@ -5,30 +5,22 @@ use Rattle.pack.proofs.Store.{store-4}
 use Rattle.export.proofs.Cases.{export-cases}
 use Rattle.export.proofs.packing.store_span.Statement.{statement}
 use Rattle.export.proofs.packing.store_span.Tie as tie
-use Rattle.export.proofs.packing.store_span.Reads as reads
-use Rattle.export.proofs.packing.store_span.Lts as lts
 
--- src/packing.rt:60:5
 slice-write-words : tie.Need-slice-write-words
 slice-write-words c = search (needs, export-cases)
 
--- src/packing.rt:61:5
 slice-write-words-2 : tie.Need-slice-write-words-2
 slice-write-words-2 c = simp length-set (omega arith)
 
--- src/packing.rt:62:5
 slice-write-words-3 : tie.Need-slice-write-words-3
 slice-write-words-3 c = simp length-set (omega arith)
 
--- src/packing.rt:63:5
 slice-write-words-4 : tie.Need-slice-write-words-4
 slice-write-words-4 c = simp length-set (omega arith)
 
--- src/packing.rt:55:1
 same-length : tie.Need-same-length
 same-length c = search (needs, export-cases)
 
--- src/packing.rt:55:1
 returns : tie.Need-returns
 returns c = store-4 (c .before .args .words .now) 0 _ _ _ _ (c .before .pre)
 

@@ -5,22 +5,16 @@ use Rattle.pack.proofs.Store.{store-2}
 use Rattle.export.proofs.Cases.{export-cases}
 use Rattle.export.proofs.packing.store_symbol.Statement.{statement}
 use Rattle.export.proofs.packing.store_symbol.Tie as tie
-use Rattle.export.proofs.packing.store_symbol.Reads as reads
-use Rattle.export.proofs.packing.store_symbol.Lts as lts
 
--- src/packing.rt:85:5
 slice-write-words : tie.Need-slice-write-words
 slice-write-words c = search (needs, export-cases)
 
--- src/packing.rt:86:5
 slice-write-words-2 : tie.Need-slice-write-words-2
 slice-write-words-2 c = simp length-set (omega arith)
 
--- src/packing.rt:81:1
 same-length : tie.Need-same-length
 same-length c = search (needs, export-cases)
 
--- src/packing.rt:81:1
 returns : tie.Need-returns
 returns c = store-2 (c .args .words .now) 0 _ _ (c .pre)
 

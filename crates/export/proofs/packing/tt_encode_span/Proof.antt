@@ -2,24 +2,16 @@ use borrow.Author.Needs.{needs}
 use Rattle.export.proofs.Cases.{export-cases}
 use Rattle.export.proofs.packing.tt_encode_span.Statement.{statement}
 use Rattle.export.proofs.packing.tt_encode_span.Tie as tie
-use Rattle.export.proofs.packing.tt_encode_span.Reads as reads
-use Rattle.export.proofs.packing.tt_encode_span.Lts as lts
-use Rattle.export.proofs.packing.code_of.Reads as code-of-reads
-use Rattle.pack.proofs.span.encode_span_no_map.Reads as encode-span-no-map-reads
 
--- src/packing.rt:43:9
 encode-span-no-map-requires : tie.Need-encode-span-no-map-requires
 encode-span-no-map-requires c κs = search (needs, export-cases)
 
--- src/packing.rt:44:5
 code-of-requires : tie.Need-code-of-requires
 code-of-requires c κs = search (needs, export-cases)
 
--- src/packing.rt:26:1
 same-length : tie.Need-same-length
 same-length c = search (needs, export-cases)
 
--- src/packing.rt:26:1
 returns : tie.Need-returns
 returns c = search (needs, export-cases)
 

@@ -1,5 +1,5 @@
 use borrow.Author.Needs.{needs}
-use Rattle.tree.proofs.ReadFields.{field-cases}
+use Rattle.tree.proofs.FieldsReturns.{field-cases}
 use Rattle.tree.proofs.fields.span_fits.Statement.{statement}
 use Rattle.tree.proofs.fields.span_fits.Tie as tie
 

@@ -1,5 +1,5 @@
 use borrow.Author.Needs.{needs}
-use Rattle.tree.proofs.ReadFields.{sort-cases}
+use Rattle.tree.proofs.FieldsReturns.{sort-cases}
 use Rattle.tree.proofs.fields.subtree_fits.Statement.{statement}
 use Rattle.tree.proofs.fields.subtree_fits.Tie as tie
 

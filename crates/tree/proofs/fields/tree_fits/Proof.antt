@@ -1,5 +1,5 @@
 use borrow.Author.Needs.{needs}
-use Rattle.tree.proofs.ReadFields.{tree-cases}
+use Rattle.tree.proofs.FieldsReturns.{tree-cases}
 use Rattle.tree.proofs.fields.tree_fits.Statement.{statement}
 use Rattle.tree.proofs.fields.tree_fits.Tie as tie
 

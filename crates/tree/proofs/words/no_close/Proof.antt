@@ -2,51 +2,37 @@ use borrow.Author.Needs.{needs}
 use Rattle.tree.proofs.WordsReturns.{words-cases}
 use Rattle.tree.proofs.words.no_close.Statement.{statement}
 use Rattle.tree.proofs.words.no_close.Tie as tie
-use Rattle.tree.proofs.words.no_close.Reads as reads
-use Rattle.tree.proofs.words.no_close.Lts as lts
-use Rattle.tree.proofs.words.word.Reads as word-reads
 
--- src/words.rt:104:8
 word-requires : tie.Need-word-requires
 word-requires c κs = search (needs, words-cases)
 
--- src/words.rt:105:9
 returns : tie.Need-returns
 returns c = search (needs, words-cases)
 
--- src/words.rt:107:8
 word-requires-2 : tie.Need-word-requires-2
 word-requires-2 c κs = search (needs, words-cases)
 
--- src/words.rt:108:9
 returns-2 : tie.Need-returns-2
 returns-2 c = search (needs, words-cases)
 
--- src/words.rt:110:8
 word-requires-3 : tie.Need-word-requires-3
 word-requires-3 c κs = search (needs, words-cases)
 
--- src/words.rt:111:9
 returns-3 : tie.Need-returns-3
 returns-3 c = search (needs, words-cases)
 
--- src/words.rt:113:8
 word-requires-4 : tie.Need-word-requires-4
 word-requires-4 c κs = search (needs, words-cases)
 
--- src/words.rt:114:9
 returns-4 : tie.Need-returns-4
 returns-4 c = search (needs, words-cases)
 
--- src/words.rt:116:8
 word-requires-5 : tie.Need-word-requires-5
 word-requires-5 c κs = search (needs, words-cases)
 
--- src/words.rt:117:9
 returns-5 : tie.Need-returns-5
 returns-5 c = search (needs, words-cases)
 
--- src/words.rt:101:1
 returns-6 : tie.Need-returns-6
 returns-6 c = search (needs, words-cases)
 

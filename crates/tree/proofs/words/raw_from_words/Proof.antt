@@ -2,45 +2,31 @@ use borrow.Author.Needs.{needs}
 use Rattle.tree.proofs.WordsReturns.{words-cases}
 use Rattle.tree.proofs.words.raw_from_words.Statement.{statement}
 use Rattle.tree.proofs.words.raw_from_words.Tie as tie
-use Rattle.tree.proofs.words.raw_from_words.Reads as reads
-use Rattle.tree.proofs.words.raw_from_words.Lts as lts
-use Rattle.tree.proofs.words.close_span.Reads as close-span-reads
-use Rattle.tree.proofs.words.leaf_span.Reads as leaf-span-reads
-use Rattle.tree.proofs.words.word.Reads as word-reads
 
--- src/words.rt:64:9
 word-requires : tie.Need-word-requires
 word-requires c κs = search (needs, words-cases)
 
--- src/words.rt:65:9
 leaf-span-requires : tie.Need-leaf-span-requires
 leaf-span-requires c κs = search (needs, words-cases)
 
--- src/words.rt:66:9
 word-requires-2 : tie.Need-word-requires-2
 word-requires-2 c κs = search (needs, words-cases)
 
--- src/words.rt:67:9
 word-requires-3 : tie.Need-word-requires-3
 word-requires-3 c κs = search (needs, words-cases)
 
--- src/words.rt:69:9
 returns : tie.Need-returns
 returns c = search (needs, words-cases)
 
--- src/words.rt:76:9
 returns-2 : tie.Need-returns-2
 returns-2 c = search (needs, words-cases)
 
--- src/words.rt:83:9
 returns-3 : tie.Need-returns-3
 returns-3 c = search (needs, words-cases)
 
--- src/words.rt:91:9
 close-span-requires : tie.Need-close-span-requires
 close-span-requires c κs = search (needs, words-cases)
 
--- src/words.rt:55:1
 returns-4 : tie.Need-returns-4
 returns-4 c = search (needs, words-cases)
 

@@ -1,0 +1,19 @@
+use borrow.Author.Needs.{needs}
+use Rattle.decode.proofs.DecodeReturns.{number-cases}
+use Rattle.decode.proofs.decode.delimiter_from.Statement.{statement}
+use Rattle.decode.proofs.decode.delimiter_from.Tie as tie
+
+returns : tie.Need-returns
+returns c = search (needs, number-cases)
+
+returns-2 : tie.Need-returns-2
+returns-2 c = search (needs, number-cases)
+
+returns-3 : tie.Need-returns-3
+returns-3 c = search (needs, number-cases)
+
+returns-4 : tie.Need-returns-4
+returns-4 c = search (needs, number-cases)
+
+pub delimiter-from-spec : {M : Type 1} → statement M
+delimiter-from-spec = tie.close (tie.spec returns returns-2 returns-3 returns-4)

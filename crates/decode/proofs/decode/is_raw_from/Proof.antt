@@ -1,0 +1,13 @@
+use borrow.Author.Needs.{needs}
+use Rattle.decode.proofs.DecodeReturns.{number-cases}
+use Rattle.decode.proofs.decode.is_raw_from.Statement.{statement}
+use Rattle.decode.proofs.decode.is_raw_from.Tie as tie
+
+returns : tie.Need-returns
+returns c = search (needs, number-cases)
+
+returns-2 : tie.Need-returns-2
+returns-2 c = search (needs, number-cases)
+
+pub is-raw-from-spec : {M : Type 1} → statement M
+is-raw-from-spec = tie.close (tie.spec returns returns-2)

@@ -1,0 +1,20 @@
+use borrow.Author.Needs.{needs}
+use Rattle.decode.proofs.DecodeReturns.{resolve-cases}
+use Rattle.decode.proofs.decode.subtree_from.Statement.{statement}
+use Rattle.decode.proofs.decode.subtree_from.Tie as tie
+
+span-from-requires : tie.Need-span-from-requires
+span-from-requires c κs = search (needs, resolve-cases)
+
+span-from-requires-2 : tie.Need-span-from-requires-2
+span-from-requires-2 c κs = search (needs, resolve-cases)
+
+delimiter-from-requires : tie.Need-delimiter-from-requires
+delimiter-from-requires c κs = search (needs, resolve-cases)
+
+returns : tie.Need-returns
+returns c = search (needs, resolve-cases)
+
+pub subtree-from-spec : {M : Type 1} → statement M
+subtree-from-spec =
+    tie.close (tie.spec span-from-requires span-from-requires-2 delimiter-from-requires returns)

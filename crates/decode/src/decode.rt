@@ -1,0 +1,202 @@
+// Tree n of a buffer as the source's tree: its indices looked up in the tables.
+use crate::judge::tree_at;
+use pack::span::PackedSpan;
+use tree::raw::ChildrenBytes;
+use tree::raw::RawIdent;
+use tree::raw::RawLiteral;
+use tree::raw::RawPunct;
+use tree::raw::RawRead;
+use tree::raw::RawSubtree;
+use tree::raw::RawTree;
+use tree::raw::place;
+use tree::types::DelimiterKind;
+use tree::types::Ident;
+use tree::types::IdentIsRaw;
+use tree::types::Leaf;
+use tree::types::LitKind;
+use tree::types::Literal;
+use tree::types::Punct;
+use tree::types::Spacing;
+use tree::types::Span;
+use tree::types::Subtree;
+use tree::types::TokenTree;
+ghost use mathlib.Core.Path.{_≡_};
+ghost use mathlib.Core.Bool.{true};
+ghost use Prim.Native.Nat.{_+_, _*_, _/_, _<_, _≤_};
+ghost use lib.ListN.{length, getD};
+ghost use Rattle.format.specs.Tree.{punct, ident, literal, subtree};
+ghost use Rattle.pack.specs.Answer.{spanOf};
+ghost use Rattle.tree.specs.Raw.{rawOf};
+ghost use Rattle.tree.specs.Types.{spacingOf, isRawOf, delimiterOf, litKindOf, spanWith, punctWith, identWith, literalWith, subtreeWith, resolved};
+ghost use Rattle.decode.specs.Decode.{treeAnswer, decodedAt, inTables};
+
+pub struct TreeAt {
+    pub tree: TokenTree,
+    pub next: usize,
+    pub children: ChildrenBytes,
+}
+
+pub enum TreeRead {
+    Got(TreeAt),
+    Refused(u32),
+}
+
+// ---- numbers that row 2 has passed: the last arm takes the one that is left
+
+fn spacing_from(x: u32) -> Spacing
+    ensures { λ r. ⌜ r ≡ spacingOf x ⌝ }
+{
+    match x {
+        0 => Spacing::Alone,
+        1 => Spacing::Joint,
+        _ => Spacing::JointHidden,
+    }
+}
+
+fn is_raw_from(x: u32) -> IdentIsRaw
+    ensures { λ r. ⌜ r ≡ isRawOf x ⌝ }
+{
+    match x {
+        0 => IdentIsRaw::No,
+        _ => IdentIsRaw::Yes,
+    }
+}
+
+fn delimiter_from(d: u32) -> DelimiterKind
+    ensures { λ r. ⌜ r ≡ delimiterOf d ⌝ }
+{
+    match d {
+        0 => DelimiterKind::Parenthesis,
+        1 => DelimiterKind::Brace,
+        2 => DelimiterKind::Bracket,
+        _ => DelimiterKind::Invisible,
+    }
+}
+
+fn lit_kind_from(kind: u32, raw_count: u32) -> LitKind
+    ensures { λ r. ⌜ r ≡ litKindOf kind «raw_count» ⌝ }
+{
+    match kind {
+        0 => LitKind::Byte,
+        1 => LitKind::Char,
+        2 => LitKind::Integer,
+        3 => LitKind::Float,
+        4 => LitKind::Str,
+        5 => LitKind::StrRaw(raw_count),
+        6 => LitKind::ByteStr,
+        7 => LitKind::ByteStrRaw(raw_count),
+        8 => LitKind::CStr,
+        9 => LitKind::CStrRaw(raw_count),
+        _ => LitKind::Err,
+    }
+}
+
+// ---- table entries
+
+// A part is three words: file, ast id, context.
+fn span_from(parts: &[u32], span: PackedSpan) -> Span
+    requires { ⌜ span .index < length (now parts) / 3 ⌝ }
+    ensures { λ r. ⌜ r ≡ spanWith (now (parts .entry)) (spanOf span) ⌝ }
+{
+    let at = 3 * place(span.index);
+    Span {
+        file: parts[at],
+        ast_id: parts[at + 1],
+        context: parts[at + 2],
+        start: span.start,
+        len: span.len,
+    }
+}
+
+fn symbol_from(symbols: &[u32], index: u32) -> u32
+    requires { ⌜ index < length (now symbols) ⌝ }
+    ensures { λ r. ⌜ r ≡ getD (now (symbols .entry)) index 0 ⌝ }
+{
+    let at = place(index);
+    symbols[at]
+}
+
+// ---- one tree
+
+fn punct_from(parts: &[u32], p: RawPunct) -> Leaf
+    requires { ⌜ p .span .index < length (now parts) / 3 ⌝ }
+    ensures { λ r. ⌜ r ≡ punctWith (now (parts .entry)) (spanOf (p .span)) (p .char) (p .spacing) ⌝ }
+{
+    let span = p.span;
+    Leaf::Punct(Punct {
+        char: p.char,
+        spacing: spacing_from(p.spacing),
+        span: span_from(parts, span),
+    })
+}
+
+fn ident_from(parts: &[u32], symbols: &[u32], p: RawIdent) -> Leaf
+    requires { ⌜ (p .span .index < length (now parts) / 3) × (p .symbol < length (now symbols)) ⌝ }
+    ensures { λ r. ⌜ r ≡ identWith (now (parts .entry)) (now (symbols .entry)) (spanOf (p .span)) (p .symbol) (p .raw) ⌝ }
+{
+    let span = p.span;
+    Leaf::Ident(Ident {
+        sym: symbol_from(symbols, p.symbol),
+        span: span_from(parts, span),
+        is_raw: is_raw_from(p.raw),
+    })
+}
+
+fn literal_from(parts: &[u32], symbols: &[u32], p: RawLiteral) -> Leaf
+    requires { ⌜ (p .span .index < length (now parts) / 3) × (p .symbol < length (now symbols)) ⌝ }
+    ensures { λ r. ⌜ r ≡ literalWith (now (parts .entry)) (now (symbols .entry)) (spanOf (p .span)) (p .symbol) (p .kind) (p .«raw_count») (p .«suffix_len») ⌝ }
+{
+    let span = p.span;
+    Leaf::Literal(Literal {
+        text_and_suffix: symbol_from(symbols, p.symbol),
+        span: span_from(parts, span),
+        kind: lit_kind_from(p.kind, p.raw_count),
+        suffix_len: p.suffix_len,
+    })
+}
+
+fn subtree_from(parts: &[u32], p: RawSubtree) -> Subtree
+    requires { ⌜ (p .opening .index < length (now parts) / 3) × (p .closing .index < length (now parts) / 3) ⌝ }
+    ensures { λ r. ⌜ r ≡ subtreeWith (now (parts .entry)) (spanOf (p .opening)) (spanOf (p .closing)) (p .len .0) (p .kind) ⌝ }
+{
+    let opening = p.opening;
+    let closing = p.closing;
+    let len = p.len;
+    Subtree {
+        opening: span_from(parts, opening),
+        closing: span_from(parts, closing),
+        len: len,
+        kind: delimiter_from(p.kind),
+    }
+}
+
+fn resolve(parts: &[u32], symbols: &[u32], tree: RawTree) -> TokenTree
+    requires { ⌜ inTables (length (now parts) / 3) (length (now symbols)) (rawOf tree) ≡ true ⌝ }
+    ensures { λ r. ⌜ r ≡ resolved (now (parts .entry)) (now (symbols .entry)) (rawOf tree) ⌝ }
+{
+    match tree {
+        RawTree::Punct(p) => TokenTree::Leaf(punct_from(parts, p)),
+        RawTree::Ident(p) => TokenTree::Leaf(ident_from(parts, symbols, p)),
+        RawTree::Literal(p) => TokenTree::Leaf(literal_from(parts, symbols, p)),
+        RawTree::Subtree(p) => TokenTree::Subtree(subtree_from(parts, p)),
+    }
+}
+
+// Tree n at a place by its table entries, or the number of the first row that refuses it.
+pub fn decode(b: &[u8], parts: &[u32], symbols: &[u32], n: u32, at: usize) -> TreeRead
+    ensures { λ r. ⌜ r ≡ treeAnswer (decodedAt (now (b .entry)) (now (parts .entry)) (now (symbols .entry)) n at) ⌝ }
+{
+    let read = tree_at(b, parts.len() / 3, symbols.len(), n, at);
+    match read {
+        RawRead::Bad(number) => TreeRead::Refused(number),
+        RawRead::Got(here) => {
+            let tree = here.tree;
+            let children = here.children;
+            TreeRead::Got(TreeAt {
+                tree: resolve(parts, symbols, tree),
+                next: here.next,
+                children: children,
+            })
+        }
+    }
+}

@@ -1,0 +1,6 @@
+pub mod SizeReturns
+pub mod EncodeReturns
+pub mod EncodePut
+pub mod EncodeForms
+pub mod EncodeTree
+pub mod EncodeUse
