@@ -19,7 +19,13 @@ mod raw {
         pub fn tt_encode_tree(
             out: *mut u8, len: usize, at: usize,
             tree: *const u32, words: usize,
-            open: u32, close: u32, symbol: u32, children: u32, root: bool,
+            open: u32, close: u32, symbol: u32, children: u32,
+        ) -> u64;
+        pub fn tt_encode_top_subtree(
+            out: *mut u8, len: usize, at: usize,
+            open_index: u32, open_start: u32, open_len: u32,
+            close_index: u32, close_start: u32, close_len: u32,
+            count: u32, kind: u32, children: u32,
         ) -> u64;
     }
 }
@@ -61,7 +67,16 @@ pub fn decode_tree(b: &[u8], parts: &[u32], symbols: &[u32], n: u32, at: usize, 
 
 /// The tree of 13 list words with its indices: open part, close part, symbol. The bytes written are the answer.
 #[inline]
-pub fn encode_tree(out: &mut [u8], at: usize, tree: &[u32; 13], indices: [u32; 3], children: u32, root: bool) -> Result<u64, u64> {
+pub fn encode_tree(out: &mut [u8], at: usize, tree: &[u32; 13], indices: [u32; 3], children: u32) -> Result<u64, u64> {
     let [open, close, symbol] = indices;
-    reply(unsafe { raw::tt_encode_tree(out.as_mut_ptr(), out.len(), at, tree.as_ptr(), 13, open, close, symbol, children, root) })
+    reply(unsafe { raw::tt_encode_tree(out.as_mut_ptr(), out.len(), at, tree.as_ptr(), 13, open, close, symbol, children) })
+}
+
+/// The root by its spans (index, start, length), descendants, delimiter kind and children bytes.
+pub fn encode_root(out: &mut [u8], at: usize, open: [u32; 3], close: [u32; 3], count: u32, kind: u32, children: u32) -> Result<u64, u64> {
+    reply(unsafe {
+        raw::tt_encode_top_subtree(
+            out.as_mut_ptr(), out.len(), at, open[0], open[1], open[2], close[0], close[1], close[2], count, kind, children,
+        )
+    })
 }

@@ -85,7 +85,7 @@ fn packs(tree: &Tree) -> bool {
     open < 1 << 28 && close < 1 << 28 && symbol < 1 << 29
 }
 
-/// The source's bytes of a tree with these children bytes.
+/// The source's bytes of a tree with these children bytes, which are 0 where it has no children; `after` holds zeros but at 1.
 fn source_bytes(tree: &Tree, words_of: &[u32; 13], children: u32, after: &mut [u32]) -> Box<[u8]> {
     let [open, close, symbol] = indices(tree);
     let maps = TopSubtree::chosen_maps(&[([open, 1, 2], open as usize), ([close, 1, 2], close as usize)], &[(symbol, symbol as usize)]);
@@ -94,7 +94,6 @@ fn source_bytes(tree: &Tree, words_of: &[u32; 13], children: u32, after: &mut [u
         _ => 0,
     };
     after[1] = children;
-    after[1 + count] = if count == 0 { children } else { 0 };
     TopSubtree::encode_tree(words::tree(words_of), &maps, &mut after[..count + 2])
 }
 
@@ -119,7 +118,7 @@ pub fn write(tally: &mut Tally, trees: u64) {
         };
         let bytes = if refusal.is_none() { source_bytes(&t, &words_of, children, &mut after) } else { Box::default() };
         let own = refusal.is_some() || plain::write(&t, children.into(), Loose::default()) == *bytes;
-        let ok = held(refusal, &bytes, |out, at| proved::encode_tree(out, at, &words_of, indices(&t), children, false));
+        let ok = held(refusal, &bytes, |out, at| proved::encode_tree(out, at, &words_of, indices(&t), children));
         tally.case(ok && own, || format!("{t:?} children {children} {refusal:?} {bytes:02x?}"));
     }
 }
@@ -127,23 +126,28 @@ pub fn write(tally: &mut Tally, trees: u64) {
 /// Roots written.
 pub fn write_roots(tally: &mut Tally, trees: u64) {
     let mut r = Random::new(3);
+    let mut after = vec![0; 1048578];
     for _ in 0..trees {
         let first = r.near(&INDEX, 1 << 21) as u32;
         let (mut open, mut close) = (span(&mut r, LAST), span(&mut r, LAST));
         (open.index, close.index) = (u64::from(first), u64::from(first) + 1);
         let (count, kind) = (r.near(&COUNT, 1048575), r.below(5));
-        let children = r.near(&BYTES, LAST - 100) as u32;
+        let children = if count == 0 { 0 } else { r.near(&BYTES, LAST - 100) as u32 };
         let t = Tree::Subtree { open, close, count, kind };
         let words_of = index_words(&t);
         let refusal = if plain::in_range(&t) { None } else { Some(2) };
         let bytes: Box<[u8]> = if refusal.is_none() {
             let TokenTree::Subtree(root) = words::tree(&words_of) else { unreachable!() };
-            TopSubtree::encode_root(root, first, &[0, children])
+            after[1] = children;
+            TopSubtree::encode_root(root, first, &after)
         } else {
             Box::default()
         };
         let own = refusal.is_some() || plain::write_root(open, close, count, kind, children.into()) == *bytes;
-        let ok = held(refusal, &bytes, |out, at| proved::encode_tree(out, at, &words_of, indices(&t), children, true));
+        let numbers = |s: Span| [s.index as u32, s.start as u32, s.len as u32];
+        let ok = held(refusal, &bytes, |out, at| {
+            proved::encode_root(out, at, numbers(open), numbers(close), count as u32, kind as u32, children)
+        });
         tally.case(ok && own, || format!("root {t:?} children {children} {refusal:?} {bytes:02x?}"));
     }
 }
@@ -196,7 +200,8 @@ pub fn read(tally: &mut Tally, trees: u64) {
             tag: r.below(2),
             forms: r.below(3) as usize,
         };
-        let tree = tree(&mut r, if r.one_in(20) { 40010 } else { 39999 }, if r.one_in(20) { 10010 } else { 9999 });
+        let (parts, symbols) = if r.one_in(20) { (40010, 10010) } else { (39999, 9999) };
+        let tree = tree(&mut r, parts, symbols);
         let children = r.near(&BYTES, LAST);
         let how = if root { Loose { span: 12, close: 12, forms: 9, ..how } } else { how };
         if matches!(tree, Tree::Literal { kind, .. } if kind > 31) || matches!(tree, Tree::Punct { char, .. } if char > LAST) {

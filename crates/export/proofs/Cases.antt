@@ -18,7 +18,15 @@ use Rattle.pack.specs.declared.span.SpanRead.the-variants as spans
 use Rattle.pack.specs.declared.symbol.SymbolAt.{SymbolAt}
 use Rattle.pack.specs.declared.symbol.SymbolRead.{SymbolRead}
 use Rattle.pack.specs.declared.symbol.SymbolRead.the-variants as symbols
-use Rattle.export.specs.Code.{codeOf, refusalCode, SpanStored, SymbolStored, spanWords, symbolWords, SpanFound, SymbolFound}
+use mathlib.Core.Bool.{true, false, not}
+use borrow.Author.Tests.{not-true, not-false}
+use Rattle.format.specs.Tree.{Raw, subtree}
+use Rattle.format.specs.WordList.{wordOf, rawFrom, wordFields}
+use Rattle.tree.specs.Raw.{rawTree, rawOf}
+use Rattle.tree.specs.declared.raw.RawTree.{RawTree}
+use Rattle.tree.proofs.RawAgain.{raw-again}
+use Rattle.encode.specs.Encode.{packTree, TreePacked}
+use Rattle.export.specs.Code.{codeOf, refusalCode, SpanStored, SymbolStored, spanWords, symbolWords, SpanFound, SymbolFound, TreeStored, RootStored}
 
 pub code-written : (p : Packed) (n : ℕ) → p ≡ Written n → n ≡ codeOf p
 code-written p n e = rw e
@@ -52,5 +60,23 @@ module _ (b : List ℕ) (at : ℕ) (w : List ℕ) where
 
     pub symbol-some : (y : SymbolAt) (w′ : List ℕ) → a ≡ symbols.Read y → w′ ≡ put w 0 (symbolWords y) → SymbolFound b at w (y .next) w′
     symbol-some y w′ k q = let t = le-ltb (length w) 2 h in let f = sym e ∙ k in record { reply = simp (t, f); contents = simp (t, f) q }
+
+-- ---- trees
+
+module _ (b : List ℕ) (at : ℕ) (w : List ℕ) (o c y kids : ℕ) (f : Bool) (e : f ≡ wordFields (wordOf w 0)) where
+  pub tree-refused : not f ≡ true → TreeStored b at w o c y kids 9223372036854775810 b
+  tree-refused h = let t : wordFields (wordOf w 0) ≡ false = sym e ∙ not-true f h in record { reply = simp t; contents = simp t }
+
+  pub tree-stored : not f ≡ false → (q : RawTree) (p : Packed) (r : ℕ) (b′ : List ℕ) → q ≡ rawTree (rawFrom o c y (wordOf w 0)) → TreePacked b at 1 (rawOf q) kids p b′ → r ≡ codeOf p → TreeStored b at w o c y kids r b′
+  tree-stored h q p r b′ g k d =
+      let t : wordFields (wordOf w 0) ≡ true = sym e ∙ not-false f h in
+      let z : rawOf q ≡ rawFrom o c y (wordOf w 0) = ap rawOf g ∙ raw-again (rawFrom o c y (wordOf w 0)) in
+      let m : TreePacked b at 1 (rawFrom o c y (wordOf w 0)) kids p b′ = rw (← z) k in
+      record { reply = simp t (d ∙ ap codeOf (m .answer)); contents = simp t (m .contents) }
+
+pub root-stored : (b : List ℕ) (at : ℕ) (s t : Span) (n d kids : ℕ) (p : Packed) (r : ℕ) (b′ : List ℕ) → TreePacked b at 0 (subtree s t n d) kids p b′ → r ≡ codeOf p → RootStored b at s t n d kids r b′
+root-stored b at s t n d kids p r b′ k e = record { reply = e ∙ ap codeOf (k .answer); contents = k .contents }
+
+pub ruleset tree-cases = (tree-refused, tree-stored, root-stored)
 
 pub ruleset export-cases = (code-written, code-refused, span-stored, symbol-stored, span-few, symbol-few, span-none, span-some, symbol-none, symbol-some)

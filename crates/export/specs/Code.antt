@@ -9,6 +9,11 @@ use Rattle.format.specs.Test.{if_then_else_}
 use Rattle.format.specs.Word.{put}
 use Rattle.format.specs.Span.{Span, spanAt, symbolAt}
 use Rattle.format.specs.Pack.{spanReport, spanPacked, symbolReport, symbolPacked}
+use Rattle.format.specs.Verdict.{report}
+use Rattle.format.specs.Verdict as verdict
+use Rattle.format.specs.Tree.{Raw, subtree}
+use Rattle.format.specs.WordList.{wordOf, rawFrom, wordFields}
+use Rattle.format.specs.Write.{treeBytes}
 use Rattle.pack.specs.Answer.{packedAnswer, spanAnswer, symbolAnswer}
 use Rattle.pack.specs.declared.Packed.{Packed}
 use Rattle.pack.specs.declared.Packed.the-variants.{Written, Refused}
@@ -18,6 +23,7 @@ use Rattle.pack.specs.declared.span.SpanRead.the-variants as spans
 use Rattle.pack.specs.declared.symbol.SymbolAt.{SymbolAt}
 use Rattle.pack.specs.declared.symbol.SymbolRead.{SymbolRead}
 use Rattle.pack.specs.declared.symbol.SymbolRead.the-variants as symbols
+use Rattle.encode.specs.Encode.{packTree}
 
 -- a refusal's number, out of the way of every length and place
 abbrev pub refusalCode : ℕ → ℕ
@@ -66,3 +72,21 @@ pub record SpanFound (b : List ℕ) (at : ℕ) (w : List ℕ) (r : ℕ) (w′ : 
 pub record SymbolFound (b : List ℕ) (at : ℕ) (w : List ℕ) (r : ℕ) (w′ : List ℕ) : Type 0 where
   pub reply : r ≡ (if ltb (length w) 2 then refusalCode 6 else symbolCode (symbolAnswer (symbolAt b at)))
   pub contents : w′ ≡ (if ltb (length w) 2 then w else symbolLeft w (symbolAnswer (symbolAt b at)))
+
+-- ---- trees
+
+-- tree m, packed: the reply and the contents
+abbrev pub treeReply : List ℕ → ℕ → ℕ → Raw → ℕ → ℕ
+treeReply b at m t kids = codeOf (packedAnswer (report (packTree b at m t kids) (length (treeBytes m t kids))))
+
+abbrev pub treeLeft : List ℕ → ℕ → ℕ → Raw → ℕ → List ℕ
+treeLeft b at m t kids = verdict.contents (packTree b at m t kids) b (put b at (treeBytes m t kids))
+
+-- the tree of the first 13 list words: 2 if a word is out of range, then as the tree is packed
+pub record TreeStored (b : List ℕ) (at : ℕ) (w : List ℕ) (o c y kids : ℕ) (r : ℕ) (b′ : List ℕ) : Type 0 where
+  pub reply : r ≡ (if wordFields (wordOf w 0) then treeReply b at 1 (rawFrom o c y (wordOf w 0)) kids else refusalCode 2)
+  pub contents : b′ ≡ (if wordFields (wordOf w 0) then treeLeft b at 1 (rawFrom o c y (wordOf w 0)) kids else b)
+
+pub record RootStored (b : List ℕ) (at : ℕ) (s t : Span) (n d kids : ℕ) (r : ℕ) (b′ : List ℕ) : Type 0 where
+  pub reply : r ≡ treeReply b at 0 (subtree s t n d) kids
+  pub contents : b′ ≡ treeLeft b at 0 (subtree s t n d) kids

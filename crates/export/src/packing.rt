@@ -14,7 +14,7 @@ ghost use Rattle.format.specs.Span.{spanAt, symbolAt};
 ghost use Rattle.export.specs.Code.{codeOf, SpanStored, SymbolStored, spanWords, symbolWords, SpanFound, SymbolFound};
 
 // A reply in one number: the bytes written, or 2^63 and the refusal's number.
-fn code_of(p: Packed) -> u64
+pub fn code_of(p: Packed) -> u64
     ensures { λ r. ⌜ r ≡ codeOf p ⌝ }
 {
     match p {

@@ -1,0 +1,18 @@
+//! Times of the proved functions beside the unmodified source's, in one process, on the same input, both built for release.
+#[path = "../compare/proved.rs"]
+mod proved;
+#[path = "../compare/random.rs"]
+mod random;
+#[path = "../compare/words.rs"]
+mod words;
+
+mod list;
+mod timing;
+mod tree;
+
+fn main() {
+    println!("| what | ours, ns | the source's, ns | ratio |");
+    println!("|---|---|---|---|");
+    tree::spans();
+    tree::trees();
+}
