@@ -1,20 +1,19 @@
 //! Best of several runs, ours and the source's in turn.
 use std::time::Instant;
 
-fn once(f: &mut dyn FnMut()) -> f64 {
-    let t = Instant::now();
-    f();
-    t.elapsed().as_nanos() as f64
-}
-
-/// A row of the table, by the unit.
-pub fn row(what: &str, units: usize, mut ours: impl FnMut(), mut source: impl FnMut()) {
+/// A row of the table, by the unit. What the source's run uses up is made outside the time.
+pub fn row<T>(what: &str, units: usize, mut ours: impl FnMut(), mut setup: impl FnMut() -> T, mut source: impl FnMut(T)) {
     let (mut a, mut b) = (f64::MAX, f64::MAX);
     let begun = Instant::now();
     let mut runs = 0;
     while runs < 9 || (runs < 200 && begun.elapsed().as_millis() < 1500) {
-        a = a.min(once(&mut ours));
-        b = b.min(once(&mut source));
+        let t = Instant::now();
+        ours();
+        a = a.min(t.elapsed().as_nanos() as f64);
+        let input = setup();
+        let t = Instant::now();
+        source(input);
+        b = b.min(t.elapsed().as_nanos() as f64);
         runs += 1;
     }
     let n = units as f64;

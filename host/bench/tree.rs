@@ -30,7 +30,8 @@ pub fn spans() {
                 }
                 written = at;
             },
-            || _ = black_box(TopSubtree::encode_spans(&spans)),
+            || (),
+            |()| _ = black_box(TopSubtree::encode_spans(&spans)),
         );
         let packed = out[..written].to_vec();
         row(
@@ -44,7 +45,8 @@ pub fn spans() {
                 }
                 black_box(sum);
             },
-            || _ = black_box(TopSubtree::decode_spans(&packed)),
+            || (),
+            |()| _ = black_box(TopSubtree::decode_spans(&packed)),
         );
     }
 }
@@ -67,7 +69,8 @@ pub fn trees() {
             }
             assert_eq!(at, top.bytes().len());
         },
-        || {
+        || (),
+        |()| {
             let mut walk = top.walk_from(0);
             while let Some(tree) = walk.advance() {
                 black_box(&tree);
@@ -98,7 +101,8 @@ pub fn trees() {
             }
             assert_eq!(at, top.bytes().len());
         },
-        || _ = black_box(TopSubtree::encode_list(list.clone(), &maps)),
+        || list.clone(),
+        |list| _ = black_box(TopSubtree::encode_list(list, &maps)),
     );
     assert_eq!(out[33..], top.bytes()[33..]);
 }

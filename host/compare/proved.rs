@@ -21,6 +21,20 @@ mod raw {
             tree: *const u32, words: usize,
             open: u32, close: u32, symbol: u32, children: u32,
         ) -> u64;
+        pub fn tt_encode_list(
+            list: *const u32, words: usize,
+            parts: *const u32, part_words: usize,
+            symbols: *const u32, symbol_words: usize,
+            work: *mut u32, work_words: usize,
+            out: *mut u8, len: usize,
+        ) -> u64;
+        pub fn tt_tables(
+            list: *const u32, words: usize,
+            parts: *mut u32, part_words: usize,
+            part_counts: *mut u32, part_count_words: usize,
+            symbols: *mut u32, symbol_words: usize,
+            symbol_counts: *mut u32, symbol_count_words: usize,
+        ) -> u64;
         pub fn tt_encode_top_subtree(
             out: *mut u8, len: usize, at: usize,
             open_index: u32, open_start: u32, open_len: u32,
@@ -79,4 +93,31 @@ pub fn encode_root(out: &mut [u8], at: usize, open: [u32; 3], close: [u32; 3], c
             out.as_mut_ptr(), out.len(), at, open[0], open[1], open[2], close[0], close[1], close[2], count, kind, children,
         )
     })
+}
+
+// ---- whole lists
+
+/// A refusal's number and tree number, 32 bits each below bit 63.
+fn list_reply(code: u64) -> Result<u64, (u64, u64)> {
+    if code < REFUSED { Ok(code) } else { Err(((code - REFUSED) >> 32, code & 0xFFFF_FFFF)) }
+}
+
+pub fn encode_list(list: &[u32], parts: &[u32], symbols: &[u32], work: &mut [u32], out: &mut [u8]) -> Result<u64, (u64, u64)> {
+    list_reply(unsafe {
+        raw::tt_encode_list(
+            list.as_ptr(), list.len(), parts.as_ptr(), parts.len(), symbols.as_ptr(), symbols.len(),
+            work.as_mut_ptr(), work.len(), out.as_mut_ptr(), out.len(),
+        )
+    })
+}
+
+/// The numbers of parts, the root's two among them, and of symbols.
+pub fn tables(list: &[u32], parts: &mut [u32], part_counts: &mut [u32], symbols: &mut [u32], symbol_counts: &mut [u32]) -> Result<(u64, u64), (u64, u64)> {
+    let reply = list_reply(unsafe {
+        raw::tt_tables(
+            list.as_ptr(), list.len(), parts.as_mut_ptr(), parts.len(), part_counts.as_mut_ptr(), part_counts.len(),
+            symbols.as_mut_ptr(), symbols.len(), symbol_counts.as_mut_ptr(), symbol_counts.len(),
+        )
+    });
+    reply.map(|code| (code >> 32, code & 0xFFFF_FFFF))
 }
