@@ -38,21 +38,27 @@ pub fn rules(list: &[u32]) -> Result<(), Refusal> {
     if let Some(n) = (0..k).find(|&n| !fields(at(list, n))) {
         return Err((2, n as u64));
     }
-    if list[0] != 3 || list[1] as usize != k - 1 {
+    let counts: Vec<Option<u64>> = list.chunks(13).map(|w| (w[0] == 3).then(|| w[1].into())).collect();
+    nest(&counts)
+}
+
+/// Rows 3 and 4, by each tree's descendants if it is a subtree.
+pub fn nest(counts: &[Option<u64>]) -> Result<(), Refusal> {
+    if counts[0] != Some(counts.len() as u64 - 1) {
         return Err((3, 0));
     }
     let mut ends: Vec<u64> = Vec::new();
-    for n in 0..k {
-        while ends.last().is_some_and(|&e| e <= n as u64) {
+    for (n, count) in (0..).zip(counts) {
+        while ends.last().is_some_and(|&e| e <= n) {
             ends.pop();
         }
-        if list[13 * n] == 3 {
-            let end = n as u64 + 1 + u64::from(list[13 * n + 1]);
+        if let Some(count) = count {
+            let end = n + 1 + count;
             if ends.last().is_some_and(|&e| e < end) {
-                return Err((3, n as u64));
+                return Err((3, n));
             }
             if ends.len() == 256 {
-                return Err((4, n as u64));
+                return Err((4, n));
             }
             ends.push(end);
         }
