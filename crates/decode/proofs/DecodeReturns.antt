@@ -1,10 +1,10 @@
 -- One law for each return of the functions that look a tree's indices up, with premises as the code's tests and calls give them.
-use Prim.Native.Nat.{ℕ, _+_, _*_, _/_, _<_, _≤_}
+use Prim.Native.Nat.{ℕ, _+_, _*_, _/_, _<_}
 use mathlib.Core.Bool.{Bool, true, false, _&&_}
-use mathlib.Core.Path.{_≡_, refl, sym, ap, _∙_, subst}
+use mathlib.Core.Path.{_≡_, refl, sym, ap, subst}
 use mathlib.Core.List.{List}
 use native.Mathlib.Omega.{arith}
-use borrow.Author.Tests.{eq-eqb, ne-eqb, ltb-true, eqb-true, lt-ltb}
+use borrow.Author.Tests.{ne-eqb, ltb-true, eqb-true, lt-ltb}
 use lib.Dec.{ltb, eqb}
 use lib.ListN.{length, getD}
 use Rattle.format.specs.Test.{if_then_else_}
@@ -12,7 +12,7 @@ use Rattle.format.specs.Reader.{Reply, got, bad}
 use Rattle.format.specs.Tree.{Raw, punct, ident, literal, subtree, treeAt}
 use Rattle.format.specs.Fields.{fields}
 use Rattle.format.specs.Tables.{TableRules, rules, indexedBelow, indexedRoot, rowEight, countRules, ownTables}
-use Rattle.format.specs.Buffer.{formed, unless, judge}
+use Rattle.format.specs.Buffer.{formed, judge}
 use Rattle.format.proofs.Each.{and-left, and-right, true-false}
 use Rattle.pack.specs.Answer.{spanOf}
 use Rattle.pack.specs.declared.span.PackedSpan.{PackedSpan}
@@ -45,7 +45,7 @@ use Rattle.tree.specs.declared.types.TokenTree.{TokenTree}
 use Rattle.tree.specs.declared.types.TokenTree.the-variants as trees
 use Rattle.decode.specs.declared.decode.TreeRead.{TreeRead}
 use Rattle.decode.specs.declared.decode.TreeRead.the-variants.{Got, Refused}
-use Rattle.decode.proofs.ReadUse.{reply-got, reply-bad}
+use Rattle.decode.proofs.ReadUse.{reply-bad}
 use Rattle.decode.proofs.JudgeUse.{Passed, judged-read, judged-passed}
 
 -- ---- numbers

@@ -193,6 +193,4 @@ pub ruleset leaf-form-cases = (ascii-room, other-room, ascii-bytes, other-bytes,
 
 pub ruleset limit-cases = (brackets-order, brackets-distance, brackets-count, brackets-kids, equal-order, equal-distance, equal-count, equal-kids, parts-order, parts-distance, parts-count, parts-kids, parts-close)
 
-pub ruleset subtree-form-cases = (brackets-room, equal-room, parts-room, apart-room, brackets-bytes, equal-bytes, parts-bytes, apart-bytes)
-
-pub ruleset chosen-cases = (leaf-form-cases, limit-cases, subtree-form-cases)
+pub ruleset subtree-form-cases = (brackets-room, equal-room, parts-room, apart-room, brackets-bytes, equal-bytes, parts-bytes, apart-bytes, limit-cases)

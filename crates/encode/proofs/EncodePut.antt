@@ -120,8 +120,6 @@ kept a b c e f = e ∙ f
 
 pub ruleset piece-cases = (span-never, span-place, span-room, span-stored, two-put, three-bytes, heavy-contents, symbol-contents, kept)
 
-pub ruleset leaf-cases = (ascii-put, three-put, ident-put, other-put, short-put, raw-put, long-put)
+pub ruleset leaf-cases = (ascii-put, three-put, ident-put, other-put, short-put, raw-put, long-put, kept)
 
-pub ruleset subtree-cases = (half-put, close-put, apart-put, root-close-put, root-put)
-
-pub ruleset put-cases = (piece-cases, leaf-cases, subtree-cases)
+pub ruleset subtree-cases = (half-put, close-put, apart-put, root-close-put, root-put, kept)

@@ -184,21 +184,7 @@ module _ (k r : ℕ) where
       pub short-fits : x ≤ 15 → true ≡ (ltb 0 (shortBase k r) && leb x 15)
       short-fits g = let b : ltb 0 (shortBase k r) ≡ true = some in simp (b, le-leb _ _ g)
 
-  pub raw-5 : k ≡ 5 → true ≡ isRawKind k
-  raw-5 h = simp (eq-eqb _ _ h)
-
-  module _ (h : k ≡ 5 → ⊥) where
-    pub raw-7 : k ≡ 7 → true ≡ isRawKind k
-    raw-7 g = simp (ne-eqb _ _ h, eq-eqb _ _ g)
-
-    module _ (g : k ≡ 7 → ⊥) where
-      pub raw-9 : k ≡ 9 → true ≡ isRawKind k
-      raw-9 a = simp (ne-eqb _ _ h, ne-eqb _ _ g, eq-eqb _ _ a)
-
-      pub raw-none : (k ≡ 9 → ⊥) → false ≡ isRawKind k
-      raw-none a = simp (ne-eqb _ _ h, ne-eqb _ _ g, ne-eqb _ _ a)
-
-pub ruleset literal-cases = (base-str, base-integer, base-other, base-raw-0, base-raw-1, base-raw, short-not, short-suffix, short-fits, raw-5, raw-7, raw-9, raw-none)
+pub ruleset literal-cases = (base-str, base-integer, base-other, base-raw-0, base-raw-1, base-raw, short-not, short-suffix, short-fits)
 
 -- ---- what the form tells
 
@@ -323,5 +309,3 @@ module _ (tree : RawTree) (kids r : ℕ) where
   size-of-subtree p e f = f ∙ rw e
 
 pub ruleset tree-size-cases = (brackets-order, span-bound, symbol-bound, size-ascii, size-other, size-ident, size-short, size-raw, size-long, size-brackets, size-equal, size-parts, size-apart, size-of-punct, size-of-ident, size-of-literal, size-of-subtree)
-
-pub ruleset size-cases = (near-cases, fits-cases, form-cases, literal-cases, tree-size-cases)
