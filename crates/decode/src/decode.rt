@@ -22,12 +22,12 @@ use tree::types::Subtree;
 use tree::types::TokenTree;
 ghost use mathlib.Core.Path.{_≡_};
 ghost use mathlib.Core.Bool.{true};
-ghost use Prim.Native.Nat.{_+_, _*_, _/_, _<_, _≤_};
+ghost use Prim.Native.Nat.{_+_, _*_, _/_, _<_};
 ghost use lib.ListN.{length, getD};
-ghost use Rattle.format.specs.Tree.{punct, ident, literal, subtree};
 ghost use Rattle.pack.specs.Answer.{spanOf};
 ghost use Rattle.tree.specs.Raw.{rawOf};
-ghost use Rattle.tree.specs.Types.{spacingOf, isRawOf, delimiterOf, litKindOf, spanWith, punctWith, identWith, literalWith, subtreeWith, resolved};
+ghost use Rattle.tree.specs.Types.{spacingOf, isRawOf, delimiterOf, litKindOf};
+ghost use Rattle.tree.specs.Types.{spanWith, punctWith, identWith, literalWith, subtreeWith, resolved};
 ghost use Rattle.decode.specs.Decode.{treeAnswer, decodedAt, inTables};
 
 pub struct TreeAt {
@@ -132,7 +132,9 @@ fn punct_from(parts: &[u32], p: RawPunct) -> Leaf
 
 fn ident_from(parts: &[u32], symbols: &[u32], p: RawIdent) -> Leaf
     requires { ⌜ (p .span .index < length (now parts) / 3) × (p .symbol < length (now symbols)) ⌝ }
-    ensures { λ r. ⌜ r ≡ identWith (now (parts .entry)) (now (symbols .entry)) (spanOf (p .span)) (p .symbol) (p .raw) ⌝ }
+    ensures { λ r. ⌜
+        r ≡ identWith (now (parts .entry)) (now (symbols .entry)) (spanOf (p .span)) (p .symbol) (p .raw)
+        ⌝ }
 {
     let span = p.span;
     Leaf::Ident(Ident {
@@ -144,7 +146,10 @@ fn ident_from(parts: &[u32], symbols: &[u32], p: RawIdent) -> Leaf
 
 fn literal_from(parts: &[u32], symbols: &[u32], p: RawLiteral) -> Leaf
     requires { ⌜ (p .span .index < length (now parts) / 3) × (p .symbol < length (now symbols)) ⌝ }
-    ensures { λ r. ⌜ r ≡ literalWith (now (parts .entry)) (now (symbols .entry)) (spanOf (p .span)) (p .symbol) (p .kind) (p .«raw_count») (p .«suffix_len») ⌝ }
+    ensures { λ r. ⌜
+        r ≡ literalWith (now (parts .entry)) (now (symbols .entry)) (spanOf (p .span))
+        (p .symbol) (p .kind) (p .«raw_count») (p .«suffix_len»)
+        ⌝ }
 {
     let span = p.span;
     Leaf::Literal(Literal {
@@ -157,7 +162,9 @@ fn literal_from(parts: &[u32], symbols: &[u32], p: RawLiteral) -> Leaf
 
 fn subtree_from(parts: &[u32], p: RawSubtree) -> Subtree
     requires { ⌜ (p .opening .index < length (now parts) / 3) × (p .closing .index < length (now parts) / 3) ⌝ }
-    ensures { λ r. ⌜ r ≡ subtreeWith (now (parts .entry)) (spanOf (p .opening)) (spanOf (p .closing)) (p .len .0) (p .kind) ⌝ }
+    ensures { λ r. ⌜
+        r ≡ subtreeWith (now (parts .entry)) (spanOf (p .opening)) (spanOf (p .closing)) (p .len .0) (p .kind)
+        ⌝ }
 {
     let opening = p.opening;
     let closing = p.closing;

@@ -15,7 +15,7 @@ use Rattle.format.proofs.Each.{and-right}
 use Rattle.format.proofs.TreeBack.{near-true}
 use Rattle.pack.specs.Answer.{spanOf}
 use Rattle.pack.proofs.Sizes.{span-length, symbol-length, form-most, symbol-most}
-use Rattle.tree.specs.Raw.{rawOf}
+use Rattle.tree.specs.Raw.{rawOf, punctRaw, identRaw, literalRaw, subtreeRaw}
 use Rattle.encode.specs.Encode.{subtreeForm}
 use Rattle.tree.specs.declared.raw.RawPunct.{RawPunct}
 use Rattle.tree.specs.declared.raw.RawIdent.{RawIdent}
@@ -292,19 +292,19 @@ size-brackets s t n d k f g h m e =
     simp (a, length-append) (omega arith)
 
 module _ (tree : RawTree) (kids r : ℕ) where
-  pub size-of-punct : (p : RawPunct) → tree ≡ Punct p → r ≡ length (treeBytes 1 (punct (spanOf (p .span)) (p .char) (p .spacing)) 0) → r ≡ length (treeBytes 1 (rawOf tree) kids)
+  pub size-of-punct : (p : RawPunct) → tree ≡ Punct p → r ≡ length (treeBytes 1 (punctRaw p) 0) → r ≡ length (treeBytes 1 (rawOf tree) kids)
   unfolding treeBytes rawOf
   size-of-punct p e f = f ∙ rw e
 
-  pub size-of-ident : (p : RawIdent) → tree ≡ Ident p → r ≡ length (treeBytes 1 (ident (spanOf (p .span)) (p .symbol) (p .raw)) 0) → r ≡ length (treeBytes 1 (rawOf tree) kids)
+  pub size-of-ident : (p : RawIdent) → tree ≡ Ident p → r ≡ length (treeBytes 1 (identRaw p) 0) → r ≡ length (treeBytes 1 (rawOf tree) kids)
   unfolding treeBytes rawOf
   size-of-ident p e f = f ∙ rw e
 
-  pub size-of-literal : (p : RawLiteral) → tree ≡ Literal p → r ≡ length (treeBytes 1 (literal (spanOf (p .span)) (p .symbol) (p .kind) (p .«raw_count») (p .«suffix_len»)) 0) → r ≡ length (treeBytes 1 (rawOf tree) kids)
+  pub size-of-literal : (p : RawLiteral) → tree ≡ Literal p → r ≡ length (treeBytes 1 (literalRaw p) 0) → r ≡ length (treeBytes 1 (rawOf tree) kids)
   unfolding treeBytes rawOf
   size-of-literal p e f = f ∙ rw e
 
-  pub size-of-subtree : (p : RawSubtree) → tree ≡ Subtree p → r ≡ length (treeBytes 1 (subtree (spanOf (p .opening)) (spanOf (p .closing)) (p .len .0) (p .kind)) kids) → r ≡ length (treeBytes 1 (rawOf tree) kids)
+  pub size-of-subtree : (p : RawSubtree) → tree ≡ Subtree p → r ≡ length (treeBytes 1 (subtreeRaw p) kids) → r ≡ length (treeBytes 1 (rawOf tree) kids)
   unfolding rawOf
   size-of-subtree p e f = f ∙ rw e
 

@@ -28,7 +28,9 @@ fn word(l: &[u32], n: usize, j: usize) -> u32
 }
 
 fn leaf_span(l: &[u32], n: usize, index: u32) -> PackedSpan
-    ensures { λ r. ⌜ r ≡ record { index = index; start = wordOf (now (l .entry)) n 6; len = wordOf (now (l .entry)) n 7 } ⌝ }
+    ensures { λ r. ⌜
+        r ≡ record { index = index; start = wordOf (now (l .entry)) n 6; len = wordOf (now (l .entry)) n 7 }
+        ⌝ }
 {
     let start = word(l, n, 6);
     let len = word(l, n, 7);
@@ -40,7 +42,9 @@ fn leaf_span(l: &[u32], n: usize, index: u32) -> PackedSpan
 }
 
 fn close_span(l: &[u32], n: usize, index: u32) -> PackedSpan
-    ensures { λ r. ⌜ r ≡ record { index = index; start = wordOf (now (l .entry)) n 11; len = wordOf (now (l .entry)) n 12 } ⌝ }
+    ensures { λ r. ⌜
+        r ≡ record { index = index; start = wordOf (now (l .entry)) n 11; len = wordOf (now (l .entry)) n 12 }
+        ⌝ }
 {
     let start = word(l, n, 11);
     let len = word(l, n, 12);
