@@ -1,10 +1,10 @@
 -- One law for each return of the functions that look a tree's indices up, with premises as the code's tests and calls give them.
-use Prim.Native.Nat.{ℕ, _+_, _*_, _/_, _<_, _≤_}
+use Prim.Native.Nat.{ℕ, _+_, _*_, _/_, _<_}
 use mathlib.Core.Bool.{Bool, true, false, _&&_}
-use mathlib.Core.Path.{_≡_, refl, sym, ap, _∙_, subst}
+use mathlib.Core.Path.{_≡_, refl, sym, ap, subst}
 use mathlib.Core.List.{List}
 use native.Mathlib.Omega.{arith}
-use borrow.Author.Tests.{eq-eqb, ne-eqb, ltb-true, eqb-true, lt-ltb}
+use borrow.Author.Tests.{ltb-true, eqb-true, lt-ltb}
 use lib.Dec.{ltb, eqb}
 use lib.ListN.{length, getD}
 use Rattle.format.specs.Test.{if_then_else_}
@@ -12,7 +12,7 @@ use Rattle.format.specs.Reader.{Reply, got, bad}
 use Rattle.format.specs.Tree.{Raw, punct, ident, literal, subtree, treeAt}
 use Rattle.format.specs.Fields.{fields}
 use Rattle.format.specs.Tables.{TableRules, rules, indexedBelow, indexedRoot, rowEight, countRules, ownTables}
-use Rattle.format.specs.Buffer.{formed, unless, judge}
+use Rattle.format.specs.Buffer.{formed, judge}
 use Rattle.format.proofs.Each.{and-left, and-right, true-false}
 use Rattle.pack.specs.Answer.{spanOf}
 use Rattle.pack.specs.declared.span.PackedSpan.{PackedSpan}
@@ -31,13 +31,9 @@ use Rattle.tree.specs.declared.raw.RawRead.{RawRead}
 use Rattle.tree.specs.declared.raw.RawRead.the-variants as raws
 use Rattle.tree.specs.declared.types.Span.{Span}
 use Rattle.tree.specs.declared.types.Spacing.{Spacing}
-use Rattle.tree.specs.declared.types.Spacing.the-variants.{Alone, Joint, JointHidden}
 use Rattle.tree.specs.declared.types.IdentIsRaw.{IdentIsRaw}
-use Rattle.tree.specs.declared.types.IdentIsRaw.the-variants.{No, Yes}
 use Rattle.tree.specs.declared.types.DelimiterKind.{DelimiterKind}
-use Rattle.tree.specs.declared.types.DelimiterKind.the-variants.{Parenthesis, Brace, Bracket, Invisible}
 use Rattle.tree.specs.declared.types.LitKind.{LitKind}
-use Rattle.tree.specs.declared.types.LitKind.the-variants.{Byte, Char, Integer, Float, Str, StrRaw, ByteStr, ByteStrRaw, CStr, CStrRaw, Err}
 use Rattle.tree.specs.declared.types.Subtree as types
 use Rattle.tree.specs.declared.types.Leaf.{Leaf}
 use Rattle.tree.specs.declared.types.Leaf.the-variants as leaves
@@ -45,95 +41,8 @@ use Rattle.tree.specs.declared.types.TokenTree.{TokenTree}
 use Rattle.tree.specs.declared.types.TokenTree.the-variants as trees
 use Rattle.decode.specs.declared.decode.TreeRead.{TreeRead}
 use Rattle.decode.specs.declared.decode.TreeRead.the-variants.{Got, Refused}
-use Rattle.decode.proofs.ReadUse.{reply-got, reply-bad}
+use Rattle.decode.proofs.ReadUse.{reply-bad}
 use Rattle.decode.proofs.JudgeUse.{Passed, judged-read, judged-passed}
-
--- ---- numbers
-
-module _ (x : ℕ) where
-  pub spacing-0 : x ≡ 0 → Alone ≡ spacingOf x
-  unfolding spacingOf
-  spacing-0 h = rw h
-
-  pub spacing-1 : x ≡ 1 → Joint ≡ spacingOf x
-  unfolding spacingOf
-  spacing-1 h = rw h
-
-  pub spacing-2 : (x ≡ 0 → ⊥) → (x ≡ 1 → ⊥) → JointHidden ≡ spacingOf x
-  unfolding spacingOf
-  spacing-2 f g = simp (ne-eqb _ _ f, ne-eqb _ _ g)
-
-  pub raw-0 : x ≡ 0 → No ≡ isRawOf x
-  unfolding isRawOf
-  raw-0 h = rw h
-
-  pub raw-1 : (x ≡ 0 → ⊥) → Yes ≡ isRawOf x
-  unfolding isRawOf
-  raw-1 f = simp (ne-eqb _ _ f)
-
-  pub delimiter-0 : x ≡ 0 → Parenthesis ≡ delimiterOf x
-  unfolding delimiterOf
-  delimiter-0 h = rw h
-
-  pub delimiter-1 : x ≡ 1 → Brace ≡ delimiterOf x
-  unfolding delimiterOf
-  delimiter-1 h = rw h
-
-  pub delimiter-2 : x ≡ 2 → Bracket ≡ delimiterOf x
-  unfolding delimiterOf
-  delimiter-2 h = rw h
-
-  pub delimiter-3 : (x ≡ 0 → ⊥) → (x ≡ 1 → ⊥) → (x ≡ 2 → ⊥) → Invisible ≡ delimiterOf x
-  unfolding delimiterOf
-  delimiter-3 f g h = simp (ne-eqb _ _ f, ne-eqb _ _ g, ne-eqb _ _ h)
-
-module _ (k r : ℕ) where
-  pub kind-0 : k ≡ 0 → Byte ≡ litKindOf k r
-  unfolding litKindOf
-  kind-0 h = rw h
-
-  pub kind-1 : k ≡ 1 → Char ≡ litKindOf k r
-  unfolding litKindOf
-  kind-1 h = rw h
-
-  pub kind-2 : k ≡ 2 → Integer ≡ litKindOf k r
-  unfolding litKindOf
-  kind-2 h = rw h
-
-  pub kind-3 : k ≡ 3 → Float ≡ litKindOf k r
-  unfolding litKindOf
-  kind-3 h = rw h
-
-  pub kind-4 : k ≡ 4 → Str ≡ litKindOf k r
-  unfolding litKindOf
-  kind-4 h = rw h
-
-  pub kind-5 : k ≡ 5 → StrRaw r ≡ litKindOf k r
-  unfolding litKindOf
-  kind-5 h = rw h
-
-  pub kind-6 : k ≡ 6 → ByteStr ≡ litKindOf k r
-  unfolding litKindOf
-  kind-6 h = rw h
-
-  pub kind-7 : k ≡ 7 → ByteStrRaw r ≡ litKindOf k r
-  unfolding litKindOf
-  kind-7 h = rw h
-
-  pub kind-8 : k ≡ 8 → CStr ≡ litKindOf k r
-  unfolding litKindOf
-  kind-8 h = rw h
-
-  pub kind-9 : k ≡ 9 → CStrRaw r ≡ litKindOf k r
-  unfolding litKindOf
-  kind-9 h = rw h
-
-  pub kind-else : (k ≡ 0 → ⊥) → (k ≡ 1 → ⊥) → (k ≡ 2 → ⊥) → (k ≡ 3 → ⊥) → (k ≡ 4 → ⊥) → (k ≡ 5 → ⊥) → (k ≡ 6 → ⊥) → (k ≡ 7 → ⊥) → (k ≡ 8 → ⊥) → (k ≡ 9 → ⊥) → Err ≡ litKindOf k r
-  unfolding litKindOf
-  kind-else h₀ h₁ h₂ h₃ h₄ h₅ h₆ h₇ h₈ h₉ =
-      simp (ne-eqb _ _ h₀, ne-eqb _ _ h₁, ne-eqb _ _ h₂, ne-eqb _ _ h₃, ne-eqb _ _ h₄, ne-eqb _ _ h₅, ne-eqb _ _ h₆, ne-eqb _ _ h₇, ne-eqb _ _ h₈, ne-eqb _ _ h₉)
-
-pub ruleset number-cases = (spacing-0, spacing-1, spacing-2, raw-0, raw-1, delimiter-0, delimiter-1, delimiter-2, delimiter-3, kind-0, kind-1, kind-2, kind-3, kind-4, kind-5, kind-6, kind-7, kind-8, kind-9, kind-else)
 
 -- ---- entries
 

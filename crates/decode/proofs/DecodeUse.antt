@@ -1,17 +1,16 @@
 -- What a caller learns from a decoded tree: compared by list words, it is what the definitions' reader reads.
 use Prim.Native.Nat.{ℕ, _/_}
-use mathlib.Core.Bool.{Bool, true, false, not}
+use mathlib.Core.Bool.{Bool, true, false}
 use mathlib.Core.Path.{_≡_, refl, sym, ap, _∙_}
 use mathlib.Core.List.{List}
 use native.Mathlib.Omega.{arith}
 use lib.Dec.{eqb}
 use lib.ListN.{length}
-use Rattle.format.specs.Test.{if_then_else_}
 use Rattle.format.specs.Reader.{Reply, got, bad}
 use Rattle.format.specs.Tree.{Raw, treeAt}
 use Rattle.format.specs.Fields.{fields}
 use Rattle.format.specs.Tables.{treeWords, rowEight, rules, ownTables}
-use Rattle.format.specs.Buffer.{formed, unless, judge, ownReader}
+use Rattle.format.specs.Buffer.{formed, judge, ownReader}
 use Rattle.tree.specs.Types.{resolved, treeWordsOf}
 use Rattle.decode.specs.Decode.{treeAnswer, decodedAt}
 use Rattle.tree.specs.declared.types.TokenTree.{TokenTree}

@@ -1,20 +1,17 @@
 -- One law for each return of the functions that judge a tree, with premises as the code's tests and calls give them.
 use Prim.Native.Nat.{ℕ, _+_, _-_, _<_, _≤_}
 use mathlib.Core.Bool.{Bool, true, false, not, _&&_}
-use mathlib.Core.Path.{_≡_, refl, sym, ap, _∙_, subst}
+use mathlib.Core.Path.{_≡_, refl, sym, _∙_}
 use mathlib.Core.List.{List}
 use native.Mathlib.Omega.{arith}
 use borrow.Author.Tests.{lt-ltb, le-ltb, eq-eqb, ne-eqb, not-true, not-false}
 use lib.Dec.{ltb, eqb}
-use lib.ListN.{length}
-use Rattle.format.specs.Test.{if_then_else_}
 use Rattle.format.specs.Reader.{Reply, got, bad}
-use Rattle.format.specs.Tree.{Raw, punct, ident, literal, subtree, treeAt}
+use Rattle.format.specs.Tree.{Raw, treeAt}
 use Rattle.format.specs.Fields.{fields}
 use Rattle.format.specs.Tables.{TableRules, indexedBelow, indexedRoot, rowEight, countRules}
-use Rattle.format.specs.Buffer.{formed, unless, judge}
-use Rattle.pack.specs.declared.span.PackedSpan.{PackedSpan}
-use Rattle.tree.specs.Raw.{rawTree, rawOf, rawAnswer, inRange}
+use Rattle.format.specs.Buffer.{formed, judge}
+use Rattle.tree.specs.Raw.{rawOf, rawAnswer, inRange}
 use Rattle.tree.specs.declared.raw.RawPunct.{RawPunct}
 use Rattle.tree.specs.declared.raw.RawIdent.{RawIdent}
 use Rattle.tree.specs.declared.raw.RawLiteral.{RawLiteral}
@@ -24,7 +21,7 @@ use Rattle.tree.specs.declared.raw.RawTree.{RawTree}
 use Rattle.tree.specs.declared.raw.RawTree.the-variants.{Punct, Ident, Literal, Subtree}
 use Rattle.tree.specs.declared.raw.RawRead.{RawRead}
 use Rattle.tree.specs.declared.raw.RawRead.the-variants.{Got, Bad}
-use Rattle.decode.proofs.ReadUse.{got-bad, reply-bad, reply-got, raw-read, raw-fits}
+use Rattle.decode.proofs.ReadUse.{reply-bad, reply-got, raw-read, raw-fits}
 
 -- ---- indices
 

@@ -1,23 +1,22 @@
 -- What a caller learns from a tree that was read and judged.
 use Prim.Native.Nat.{ℕ, _<_, _≤_}
-use mathlib.Core.Bool.{Bool, true, false, not}
-use mathlib.Core.Path.{_≡_, refl, sym, ap, _∙_, subst}
+use mathlib.Core.Bool.{Bool, true, false}
+use mathlib.Core.Path.{_≡_, refl, subst}
 use mathlib.Core.List.{List}
 use native.Mathlib.Omega.{arith}
 use borrow.Author.Tests.{eqb-true}
 use lib.Dec.{eqb}
 use lib.ListN.{length}
-use Rattle.format.specs.Test.{if_then_else_}
 use Rattle.format.specs.Reader.{Reply, got, bad}
 use Rattle.format.specs.Tree.{Raw, treeAt}
 use Rattle.format.specs.Fields.{fields}
 use Rattle.format.specs.Tables.{TableRules}
-use Rattle.format.specs.Buffer.{formed, unless, judge}
+use Rattle.format.specs.Buffer.{formed, judge}
 use Rattle.format.proofs.TreeBounds.{Ended, tree-ended}
 use Rattle.tree.specs.Raw.{rawOf, rawAnswer}
 use Rattle.tree.specs.declared.raw.RawAt.{RawAt}
 use Rattle.tree.specs.declared.raw.RawRead.{RawRead}
-use Rattle.tree.specs.declared.raw.RawRead.the-variants.{Got, Bad}
+use Rattle.tree.specs.declared.raw.RawRead.the-variants.{Got}
 use Rattle.decode.proofs.ReadUse.{reply-got}
 
 -- a tree that no row refuses

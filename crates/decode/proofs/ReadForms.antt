@@ -1,20 +1,18 @@
 -- One law for each return of the functions that read a tree form by form, with premises as the code's tests and calls give them.
 use Prim.Native.Nat.{ℕ, _+_, _-_, _*_, _/_, _%_, _<_, _≤_}
-use mathlib.Core.Bool.{Bool, true, false, not, _&&_, _||_}
-use mathlib.Core.Path.{_≡_, refl, sym, ap, _∙_}
+use mathlib.Core.Bool.{Bool, true, false, not, _&&_}
+use mathlib.Core.Path.{_≡_, refl, sym, _∙_}
 use mathlib.Core.List.{List}
 use native.Mathlib.Omega.{arith}
 use borrow.Author.Tests.{lt-ltb, le-ltb, le-leb, lt-leb, eq-eqb, ne-eqb, not-true, not-false}
 use lib.Bits.{bitOr}
-use lib.Dec.{ltb, leb, eqb}
 use lib.ListN.{length}
-use Rattle.format.specs.Test.{if_then_else_}
 use Rattle.format.specs.Word.{byteAt, halfAt, wordAt}
 use Rattle.format.specs.Span.{Span, span, spanAt, symbol, symbolAt}
 use Rattle.format.specs.Span as format
-use Rattle.format.specs.Reader.{Reply, got, bad}
-use Rattle.format.specs.Tree.{Raw, punct, ident, literal, subtree, need, identOf, literalOf, moved, shortKind, shortRaw, form000, form001, form010, closed101, form110, formShort, form111, controlled, afterSpan, treeAt}
-use Rattle.format.specs.Fields.{spanFits, isRawKind, fields}
+use Rattle.format.specs.Reader.{got}
+use Rattle.format.specs.Tree.{Raw, punct, subtree, identOf, literalOf, moved, shortKind, shortRaw, form000, form001, form010, closed101, form110, formShort, form111, controlled, afterSpan, treeAt}
+use Rattle.format.specs.Fields.{isRawKind, fields}
 use Rattle.pack.specs.Answer.{spanOf, spanAnswer, symbolAnswer}
 use Rattle.pack.specs.declared.span.PackedSpan.{PackedSpan}
 use Rattle.pack.specs.declared.span.SpanAt.{SpanAt}

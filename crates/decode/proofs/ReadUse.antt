@@ -1,21 +1,17 @@
 -- What a caller learns from an answer of the tree reader, without opening a definition.
 use Prim.Native.Nat.{ℕ, _<_, _≤_}
-use mathlib.Core.Bool.{Bool, true, false, not}
+use mathlib.Core.Bool.{Bool, true, false}
 use mathlib.Core.Path.{_≡_, refl, sym, ap, _∙_, subst}
 use mathlib.Core.List.{List}
 use native.Mathlib.Omega.{arith}
 use lib.ListN.{length}
-use Rattle.format.specs.Test.{if_then_else_}
 use Rattle.format.specs.Reader.{Reply, got, bad}
-use Rattle.format.specs.Tree.{Raw, punct, ident, literal, subtree, treeAt}
+use Rattle.format.specs.Tree.{Raw, treeAt}
 use Rattle.format.specs.Fields.{fields}
-use Rattle.format.specs.Tables.{TableRules}
-use Rattle.format.specs.Buffer.{formed, unless, judge}
 use Rattle.format.proofs.TreeBounds.{Ended, tree-ended}
-use Rattle.tree.specs.Raw.{rawTree, rawOf, rawAnswer, inRange}
+use Rattle.tree.specs.Raw.{rawOf, rawAnswer, inRange}
 use Rattle.tree.specs.declared.raw.RawAt.{RawAt}
 use Rattle.tree.specs.declared.raw.RawTree.{RawTree}
-use Rattle.tree.specs.declared.raw.RawTree.the-variants.{Punct, Ident, Literal, Subtree}
 use Rattle.tree.specs.declared.raw.RawRead.{RawRead}
 use Rattle.tree.specs.declared.raw.RawRead.the-variants.{Got, Bad}
 use Rattle.tree.proofs.RawAgain.{raw-again}

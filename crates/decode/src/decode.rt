@@ -1,6 +1,10 @@
 // Tree n of a buffer as the source's tree: its indices looked up in the tables.
 use crate::judge::tree_at;
 use pack::span::PackedSpan;
+use tree::kinds::delimiter_from;
+use tree::kinds::is_raw_from;
+use tree::kinds::lit_kind_from;
+use tree::kinds::spacing_from;
 use tree::raw::ChildrenBytes;
 use tree::raw::RawIdent;
 use tree::raw::RawLiteral;
@@ -9,25 +13,20 @@ use tree::raw::RawRead;
 use tree::raw::RawSubtree;
 use tree::raw::RawTree;
 use tree::raw::place;
-use tree::types::DelimiterKind;
 use tree::types::Ident;
-use tree::types::IdentIsRaw;
 use tree::types::Leaf;
-use tree::types::LitKind;
 use tree::types::Literal;
 use tree::types::Punct;
-use tree::types::Spacing;
 use tree::types::Span;
 use tree::types::Subtree;
 use tree::types::TokenTree;
 ghost use mathlib.Core.Path.{_≡_};
 ghost use mathlib.Core.Bool.{true};
-ghost use Prim.Native.Nat.{_+_, _*_, _/_, _<_, _≤_};
+ghost use Prim.Native.Nat.{_+_, _*_, _/_, _<_};
 ghost use lib.ListN.{length, getD};
-ghost use Rattle.format.specs.Tree.{punct, ident, literal, subtree};
 ghost use Rattle.pack.specs.Answer.{spanOf};
 ghost use Rattle.tree.specs.Raw.{rawOf};
-ghost use Rattle.tree.specs.Types.{spacingOf, isRawOf, delimiterOf, litKindOf, spanWith, punctWith, identWith, literalWith, subtreeWith, resolved};
+ghost use Rattle.tree.specs.Types.{spanWith, punctWith, identWith, literalWith, subtreeWith, resolved};
 ghost use Rattle.decode.specs.Decode.{treeAnswer, decodedAt, inTables};
 
 pub struct TreeAt {
@@ -39,56 +38,6 @@ pub struct TreeAt {
 pub enum TreeRead {
     Got(TreeAt),
     Refused(u32),
-}
-
-// ---- numbers that row 2 has passed: the last arm takes the one that is left
-
-fn spacing_from(x: u32) -> Spacing
-    ensures { λ r. ⌜ r ≡ spacingOf x ⌝ }
-{
-    match x {
-        0 => Spacing::Alone,
-        1 => Spacing::Joint,
-        _ => Spacing::JointHidden,
-    }
-}
-
-fn is_raw_from(x: u32) -> IdentIsRaw
-    ensures { λ r. ⌜ r ≡ isRawOf x ⌝ }
-{
-    match x {
-        0 => IdentIsRaw::No,
-        _ => IdentIsRaw::Yes,
-    }
-}
-
-fn delimiter_from(d: u32) -> DelimiterKind
-    ensures { λ r. ⌜ r ≡ delimiterOf d ⌝ }
-{
-    match d {
-        0 => DelimiterKind::Parenthesis,
-        1 => DelimiterKind::Brace,
-        2 => DelimiterKind::Bracket,
-        _ => DelimiterKind::Invisible,
-    }
-}
-
-fn lit_kind_from(kind: u32, raw_count: u32) -> LitKind
-    ensures { λ r. ⌜ r ≡ litKindOf kind «raw_count» ⌝ }
-{
-    match kind {
-        0 => LitKind::Byte,
-        1 => LitKind::Char,
-        2 => LitKind::Integer,
-        3 => LitKind::Float,
-        4 => LitKind::Str,
-        5 => LitKind::StrRaw(raw_count),
-        6 => LitKind::ByteStr,
-        7 => LitKind::ByteStrRaw(raw_count),
-        8 => LitKind::CStr,
-        9 => LitKind::CStrRaw(raw_count),
-        _ => LitKind::Err,
-    }
 }
 
 // ---- table entries
@@ -132,7 +81,9 @@ fn punct_from(parts: &[u32], p: RawPunct) -> Leaf
 
 fn ident_from(parts: &[u32], symbols: &[u32], p: RawIdent) -> Leaf
     requires { ⌜ (p .span .index < length (now parts) / 3) × (p .symbol < length (now symbols)) ⌝ }
-    ensures { λ r. ⌜ r ≡ identWith (now (parts .entry)) (now (symbols .entry)) (spanOf (p .span)) (p .symbol) (p .raw) ⌝ }
+    ensures { λ r. ⌜
+        r ≡ identWith (now (parts .entry)) (now (symbols .entry)) (spanOf (p .span)) (p .symbol) (p .raw)
+        ⌝ }
 {
     let span = p.span;
     Leaf::Ident(Ident {
@@ -144,7 +95,10 @@ fn ident_from(parts: &[u32], symbols: &[u32], p: RawIdent) -> Leaf
 
 fn literal_from(parts: &[u32], symbols: &[u32], p: RawLiteral) -> Leaf
     requires { ⌜ (p .span .index < length (now parts) / 3) × (p .symbol < length (now symbols)) ⌝ }
-    ensures { λ r. ⌜ r ≡ literalWith (now (parts .entry)) (now (symbols .entry)) (spanOf (p .span)) (p .symbol) (p .kind) (p .«raw_count») (p .«suffix_len») ⌝ }
+    ensures { λ r. ⌜
+        r ≡ literalWith (now (parts .entry)) (now (symbols .entry)) (spanOf (p .span))
+        (p .symbol) (p .kind) (p .«raw_count») (p .«suffix_len»)
+        ⌝ }
 {
     let span = p.span;
     Leaf::Literal(Literal {
@@ -157,7 +111,9 @@ fn literal_from(parts: &[u32], symbols: &[u32], p: RawLiteral) -> Leaf
 
 fn subtree_from(parts: &[u32], p: RawSubtree) -> Subtree
     requires { ⌜ (p .opening .index < length (now parts) / 3) × (p .closing .index < length (now parts) / 3) ⌝ }
-    ensures { λ r. ⌜ r ≡ subtreeWith (now (parts .entry)) (spanOf (p .opening)) (spanOf (p .closing)) (p .len .0) (p .kind) ⌝ }
+    ensures { λ r. ⌜
+        r ≡ subtreeWith (now (parts .entry)) (spanOf (p .opening)) (spanOf (p .closing)) (p .len .0) (p .kind)
+        ⌝ }
 {
     let opening = p.opening;
     let closing = p.closing;

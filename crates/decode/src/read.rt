@@ -21,12 +21,11 @@ use tree::raw::RawTree;
 ghost use mathlib.Core.Path.{_≡_};
 ghost use Prim.Native.Nat.{_+_, _*_, _/_, _%_, _≤_, _<_};
 ghost use lib.ListN.{length};
-ghost use lib.Dec.{leb, eqb};
-ghost use Rattle.format.specs.Test.{if_then_else_};
 ghost use Rattle.format.specs.Reader.{got};
 ghost use Rattle.format.specs.Span.{spanAt, symbolAt};
-ghost use Rattle.format.specs.Tree.{punct, ident, literal, subtree, identOf, literalOf, moved, shortKind, shortRaw, form000, form001, form010, closed101, form110, formShort, form111, controlled, treeAt};
-ghost use Rattle.format.specs.Fields.{spanFits, isScalar, isRawKind, fields};
+ghost use Rattle.format.specs.Tree.{punct, literal, subtree, identOf, literalOf, moved, shortKind, shortRaw};
+ghost use Rattle.format.specs.Tree.{form000, form001, form010, closed101, form110, formShort, form111};
+ghost use Rattle.format.specs.Tree.{controlled, treeAt};
 ghost use Rattle.pack.specs.Answer.{spanOf};
 ghost use Rattle.tree.specs.Raw.{rawOf, rawAnswer, inRange};
 
@@ -46,7 +45,8 @@ fn in_range(tree: RawTree, next: usize, children: ChildrenBytes) -> RawRead
 
 // ---- the forms, by the control byte that stands at `at`
 
-// A subtree whose close span has the open one's length and stands `distance` on. A start that passes the range is found before the sum is made.
+// A subtree whose close span has the open one's length and stands `distance` on.
+// A start that passes the range is found before the sum is made.
 fn subtree_on(
     opening: PackedSpan,
     index: u32,
@@ -56,7 +56,11 @@ fn subtree_on(
     next: usize,
     children: ChildrenBytes,
 ) -> RawRead
-    ensures { λ r. ⌜ r ≡ rawAnswer (inRange (got (subtree (spanOf opening) (moved (spanOf opening) index distance) (len .0) kind) next (children .0))) ⌝ }
+    ensures { λ r. ⌜
+        r ≡ rawAnswer (inRange (got
+        (subtree (spanOf opening) (moved (spanOf opening) index distance) (len .0) kind)
+        next (children .0)))
+        ⌝ }
 {
     if 4294967295 - opening.start < distance {
         return RawRead::Bad(2);
@@ -145,7 +149,10 @@ fn form_010(b: &[u8], at: usize, control: u32, span: PackedSpan) -> RawRead
 // The only form with a close span of its own, and the root's.
 fn form_101(b: &[u8], at: usize, control: u32, span: PackedSpan) -> RawRead
     requires { ⌜ (at + 1 ≤ length (now b)) × (control < 256) ⌝ }
-    ensures { λ r. ⌜ r ≡ rawAnswer (inRange (closed101 (now (b .entry)) (spanOf span) control (spanAt (now (b .entry)) (at + 1)))) ⌝ }
+    ensures { λ r. ⌜
+        r ≡ rawAnswer (inRange
+        (closed101 (now (b .entry)) (spanOf span) control (spanAt (now (b .entry)) (at + 1))))
+        ⌝ }
 {
     let SpanRead::Read(close) = decode_span(b, at + 1) else {
         return RawRead::Bad(7);
@@ -191,7 +198,10 @@ fn literal_at(
     raw_count: u32,
     suffix_len: u32,
 ) -> RawRead
-    ensures { λ r. ⌜ r ≡ rawAnswer (inRange (literalOf (spanOf span) kind «raw_count» «suffix_len» (symbolAt (now (b .entry)) at))) ⌝ }
+    ensures { λ r. ⌜
+        r ≡ rawAnswer (inRange
+        (literalOf (spanOf span) kind «raw_count» «suffix_len» (symbolAt (now (b .entry)) at)))
+        ⌝ }
 {
     let SymbolRead::Read(symbol) = decode_symbol(b, at) else {
         return RawRead::Bad(7);

@@ -11,21 +11,23 @@ use Rattle.format.specs.Word.{wordBytes, put}
 use Rattle.format.specs.Span.{Span}
 use Rattle.format.specs.Tree.{punct, literal, subtree}
 use Rattle.format.specs.Fields.{isRawKind}
-use Rattle.format.specs.Write.{join, byte, spanBytes, symbolBytes, shortBase, near, fits000, fits001, fits010, bytes000, bytes001, bytes010, bytes101, literalBytes, subtreeBytes, treeBytes}
+use Rattle.format.specs.Write.{join, byte, spanBytes, symbolBytes, shortBase, near, bytes000, bytes001, bytes010, bytes101, literalBytes, subtreeBytes, treeBytes}
 use Rattle.format.proofs.Each.{and-left, and-right, and₄}
 use Rattle.format.proofs.TreeBack.{near-true}
 use Rattle.pack.specs.Answer.{spanOf}
+use Rattle.tree.specs.Raw.{punctRaw, literalRaw, subtreeRaw}
 use Rattle.encode.specs.Encode.{subtreeForm}
+use Rattle.encode.specs.Ready.{distanceSpan, Within}
 use Rattle.tree.specs.declared.raw.RawPunct.{RawPunct}
 use Rattle.tree.specs.declared.raw.RawLiteral.{RawLiteral}
 use Rattle.tree.specs.declared.raw.RawSubtree.{RawSubtree}
 use Rattle.encode.specs.declared.size.SubtreeForm.{SubtreeForm}
 use Rattle.encode.specs.declared.size.SubtreeForm.the-variants.{Brackets, Equal, TwoParts, Apart}
-use Rattle.encode.proofs.SizeReturns.{form-000, form-001, form-010, form-101, brackets-order, size-ascii, size-other, size-short, size-raw, size-long, size-brackets, size-equal, size-parts, size-apart}
+use Rattle.encode.proofs.SizeReturns.{form-000, form-001, form-010, form-101, size-ascii, size-other, size-short, size-raw, size-long, size-brackets, size-equal, size-parts, size-apart}
 
 -- ---- puncts
 
-module _ (p : RawPunct) (at n : ℕ) (h : at + length (treeBytes 1 (punct (spanOf (p .span)) (p .char) (p .spacing)) 0) ≤ n) where
+module _ (p : RawPunct) (at n : ℕ) (h : at + length (treeBytes 1 (punctRaw p) 0) ≤ n) where
   pub ascii-room : p .char < 128 → at + length (spanBytes 0 (spanOf (p .span))) + 1 ≤ n
   ascii-room g = omega (arith, size-ascii (spanOf (p .span)) (length (spanBytes 0 (spanOf (p .span)))) refl (p .char) (p .spacing) 0 g)
 
@@ -47,7 +49,7 @@ module _ (p : RawLiteral) (y : Bool) (e : y ≡ (ltb 0 (shortBase (p .kind) (p .
   pub short-suffix-15 : y ≡ true → p .«suffix_len» ≤ 15
   short-suffix-15 h = leb-true (p .«suffix_len») 15 (and-right (ltb 0 (shortBase (p .kind) (p .«raw_count»))) (leb (p .«suffix_len») 15) (sym e ∙ h))
 
-  module _ (at n : ℕ) (g : at + length (treeBytes 1 (literal (spanOf (p .span)) (p .symbol) (p .kind) (p .«raw_count») (p .«suffix_len»)) 0) ≤ n) where
+  module _ (at n : ℕ) (g : at + length (treeBytes 1 (literalRaw p) 0) ≤ n) where
     pub short-room : y ≡ true → at + length (spanBytes 0 (spanOf (p .span))) + 1 + length (symbolBytes 0 (p .symbol)) ≤ n
     short-room h = omega (arith, size-short (spanOf (p .span)) (length (spanBytes 0 (spanOf (p .span)))) refl (p .symbol) (length (symbolBytes 0 (p .symbol))) refl (p .kind) (p .«raw_count») (p .«suffix_len») 0 y e h)
 
@@ -83,83 +85,49 @@ module _ (b b₁ : List ℕ) (at : ℕ) (s : Span) (i k r x : ℕ) (y : Bool) (e
 few-true : (n k x : ℕ) → (leb n 255 && leb k x) ≡ true → (n ≤ 255) × (k ≤ x)
 few-true n k x e = (leb-true n 255 (and-left (leb n 255) (leb k x) e), leb-true k x (and-right (leb n 255) (leb k x) e))
 
-limits-000 : (s t : Span) (n k : ℕ) → fits000 s t n k ≡ true → (t .start - s .start ≤ 2047) × (n ≤ 255) × (k ≤ 255)
-limits-000 s t n k e =
-    let few : Bool = leb n 255 && leb k 255 in
-    let a = and-right (eqb (s .index) (t .index) && few && eqb (s .len) 1 && eqb (t .len) 1) (near s t 2047) e in
-    let b = and₄ (eqb (s .index) (t .index)) few (eqb (s .len) 1) (eqb (t .len) 1) (and-left (eqb (s .index) (t .index) && few && eqb (s .len) 1 && eqb (t .len) 1) (near s t 2047) e) in
-    let c = few-true n k 255 (b .1) in
-    (near-true s t 2047 a .1, c .0, c .1)
+module _ (p : RawSubtree) (k : ℕ) where
+  within : (far many : ℕ) → near (spanOf (p .opening)) (spanOf (p .closing)) far ≡ true → (leb (p .len .0) 255 && leb k many) ≡ true → Within p k far many
+  within far many e f =
+      let a = near-true (spanOf (p .opening)) (spanOf (p .closing)) far e in
+      let c = few-true (p .len .0) k many f in
+      record { order = a .0; distance = a .1; count = c .0; bytes = c .1 }
 
-limits-001 : (s t : Span) (n k : ℕ) → fits001 s t n k ≡ true → (s .start ≤ t .start) × (t .start - s .start ≤ 7) × (n ≤ 255) × (k ≤ 255)
-limits-001 s t n k e =
-    let few : Bool = leb n 255 && leb k 255 in
-    let b = and₄ (eqb (s .index) (t .index)) few (eqb (s .len) (t .len)) (near s t 7) e in
-    let a = near-true s t 7 (b .3) in
-    let c = few-true n k 255 (b .1) in
-    (a .0, a .1, c .0, c .1)
+  module _ (f : SubtreeForm) (e : f ≡ subtreeForm (spanOf (p .opening)) (spanOf (p .closing)) (p .len .0) k) where
+    pub brackets-within : f ≡ Brackets → Within p k 2047 255
+    brackets-within h =
+        let s : Span = spanOf (p .opening) in
+        let t : Span = spanOf (p .closing) in
+        let few : Bool = leb (p .len .0) 255 && leb k 255 in
+        let all : Bool = eqb (s .index) (t .index) && few && eqb (s .len) 1 && eqb (t .len) 1 in
+        let g = form-000 s t (p .len .0) k f e h in
+        let b = and₄ (eqb (s .index) (t .index)) few (eqb (s .len) 1) (eqb (t .len) 1) (and-left all (near s t 2047) g) in
+        within 2047 255 (and-right all (near s t 2047) g) (b .1)
 
-limits-010 : (s t : Span) (n k : ℕ) → fits010 s t n k ≡ true → (s .start ≤ t .start) × (t .start - s .start ≤ 255) × (n ≤ 255) × (k ≤ 4095) × (t .index ≤ 127)
-limits-010 s t n k e =
-    let few : Bool = leb n 255 && leb k 4095 in
-    let b = and₄ few (eqb (s .len) (t .len)) (near s t 255) (leb (t .index) 127) e in
-    let a = near-true s t 255 (b .2) in
-    let c = few-true n k 4095 (b .0) in
-    (a .0, a .1, c .0, c .1, leb-true (t .index) 127 (b .3))
+    pub equal-within : f ≡ Equal → Within p k 7 255
+    equal-within h =
+        let s : Span = spanOf (p .opening) in
+        let t : Span = spanOf (p .closing) in
+        let b = and₄ (eqb (s .index) (t .index)) (leb (p .len .0) 255 && leb k 255) (eqb (s .len) (t .len)) (near s t 7) (form-001 s t (p .len .0) k f e h .1) in
+        within 7 255 (b .3) (b .1)
+
+    parts-all : f ≡ TwoParts → Within p k 255 4095 × (p .closing .index ≤ 127)
+    parts-all h =
+        let s : Span = spanOf (p .opening) in
+        let t : Span = spanOf (p .closing) in
+        let b = and₄ (leb (p .len .0) 255 && leb k 4095) (eqb (s .len) (t .len)) (near s t 255) (leb (t .index) 127) (form-010 s t (p .len .0) k f e h .2) in
+        (within 255 4095 (b .2) (b .0), leb-true (t .index) 127 (b .3))
+
+    pub parts-within : f ≡ TwoParts → Within p k 255 4095
+    parts-within h = parts-all h .0
+
+    pub parts-close : f ≡ TwoParts → p .closing .index ≤ 127
+    parts-close h = parts-all h .1
 
 module _ (p : RawSubtree) (k : ℕ) (f : SubtreeForm) (e : f ≡ subtreeForm (spanOf (p .opening)) (spanOf (p .closing)) (p .len .0) k) where
-  module _ (h : f ≡ Brackets) where
-    l₀ : (p .closing .start - p .opening .start ≤ 2047) × (p .len .0 ≤ 255) × (k ≤ 255)
-    l₀ = limits-000 (spanOf (p .opening)) (spanOf (p .closing)) (p .len .0) k (form-000 (spanOf (p .opening)) (spanOf (p .closing)) (p .len .0) k f e h)
-
-    pub brackets-distance : p .closing .start - p .opening .start ≤ 2047
-    brackets-distance = l₀ .0
-
-    pub brackets-count : p .len .0 ≤ 255
-    brackets-count = l₀ .1
-
-    pub brackets-kids : k ≤ 255
-    brackets-kids = l₀ .2
-
-  module _ (h : f ≡ Equal) where
-    l₁ : (p .opening .start ≤ p .closing .start) × (p .closing .start - p .opening .start ≤ 7) × (p .len .0 ≤ 255) × (k ≤ 255)
-    l₁ = limits-001 (spanOf (p .opening)) (spanOf (p .closing)) (p .len .0) k (form-001 (spanOf (p .opening)) (spanOf (p .closing)) (p .len .0) k f e h .1)
-
-    pub equal-order : p .opening .start ≤ p .closing .start
-    equal-order = l₁ .0
-
-    pub equal-distance : p .closing .start - p .opening .start ≤ 7
-    equal-distance = l₁ .1
-
-    pub equal-count : p .len .0 ≤ 255
-    equal-count = l₁ .2
-
-    pub equal-kids : k ≤ 255
-    equal-kids = l₁ .3
-
-  module _ (h : f ≡ TwoParts) where
-    l₂ : (p .opening .start ≤ p .closing .start) × (p .closing .start - p .opening .start ≤ 255) × (p .len .0 ≤ 255) × (k ≤ 4095) × (p .closing .index ≤ 127)
-    l₂ = limits-010 (spanOf (p .opening)) (spanOf (p .closing)) (p .len .0) k (form-010 (spanOf (p .opening)) (spanOf (p .closing)) (p .len .0) k f e h .2)
-
-    pub parts-order : p .opening .start ≤ p .closing .start
-    parts-order = l₂ .0
-
-    pub parts-distance : p .closing .start - p .opening .start ≤ 255
-    parts-distance = l₂ .1
-
-    pub parts-count : p .len .0 ≤ 255
-    parts-count = l₂ .2
-
-    pub parts-kids : k ≤ 4095
-    parts-kids = l₂ .3
-
-    pub parts-close : p .closing .index ≤ 127
-    parts-close = l₂ .4
-
-  module _ (at n : ℕ) (g : at + length (treeBytes 1 (subtree (spanOf (p .opening)) (spanOf (p .closing)) (p .len .0) (p .kind)) k) ≤ n) where
-    pub brackets-room : f ≡ Brackets → at + length (spanBytes 0 (record { index = p .opening .index; start = p .opening .start; len = p .closing .start - p .opening .start })) + 3 ≤ n
+  module _ (at n : ℕ) (g : at + length (treeBytes 1 (subtreeRaw p) k) ≤ n) where
+    pub brackets-room : f ≡ Brackets → at + length (spanBytes 0 (distanceSpan p)) + 3 ≤ n
     brackets-room h =
-        let m : ℕ = length (spanBytes 0 (record { index = p .opening .index; start = p .opening .start; len = p .closing .start - p .opening .start })) in
+        let m : ℕ = length (spanBytes 0 (distanceSpan p)) in
         omega (arith, size-brackets (spanOf (p .opening)) (spanOf (p .closing)) (p .len .0) (p .kind) k f e h m refl)
 
     pub equal-room : f ≡ Equal → at + length (spanBytes 0 (spanOf (p .opening))) + 3 ≤ n
@@ -191,8 +159,4 @@ module _ (b b₁ : List ℕ) (at : ℕ) (s t : Span) (n d k : ℕ) (f : SubtreeF
 
 pub ruleset leaf-form-cases = (ascii-room, other-room, ascii-bytes, other-bytes, short-suffix-15, short-room, raw-room, long-room, short-bytes, raw-bytes, long-bytes)
 
-pub ruleset limit-cases = (brackets-order, brackets-distance, brackets-count, brackets-kids, equal-order, equal-distance, equal-count, equal-kids, parts-order, parts-distance, parts-count, parts-kids, parts-close)
-
-pub ruleset subtree-form-cases = (brackets-room, equal-room, parts-room, apart-room, brackets-bytes, equal-bytes, parts-bytes, apart-bytes)
-
-pub ruleset chosen-cases = (leaf-form-cases, limit-cases, subtree-form-cases)
+pub ruleset subtree-form-cases = (brackets-room, equal-room, parts-room, apart-room, brackets-bytes, equal-bytes, parts-bytes, apart-bytes, brackets-within, equal-within, parts-within, parts-close)

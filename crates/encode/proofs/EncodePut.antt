@@ -16,6 +16,7 @@ use Rattle.pack.specs.declared.Packed.the-variants.{Written, Refused}
 use Rattle.pack.proofs.Store.{put-then}
 use Rattle.pack.proofs.Sizes.{heavy-size, span-length, symbol-length}
 use Rattle.pack.proofs.Use.{never, smallest-written, smallest-count, smallest-contents, heavy-contents, symbol-contents}
+use Rattle.encode.specs.Ready.{SpanReady}
 
 -- ---- stores one behind the other
 
@@ -94,19 +95,24 @@ module _ (b b₁ b₂ b₃ : List ℕ) (at : ℕ) (s : Span) (e₁ : b₁ ≡ pu
 
 -- ---- pieces
 
-module _ (b : List ℕ) (at x : ℕ) (s : Span) (r : Packed) (b₁ : List ℕ) (p : SpanPacked b at false x s r b₁) (h₁ : x ≤ 3) (h₂ : s .start + s .len ≤ 4294967295) (h₃ : s .index < 268435456) (h₄ : at + length (spanBytes 0 s) ≤ length b) where
-  pub span-never : {A : Type 0} (k : ℕ) → r ≡ Refused k → A
-  span-never k q = never r (length (spanBytes 0 s)) k (smallest-written b at x s r b₁ h₁ h₂ h₃ p h₄) q
+module _ (b : List ℕ) (at x : ℕ) (s : Span) (r : Packed) (b₁ : List ℕ) (p : SpanPacked b at false x s r b₁) (h₁ : x ≤ 3) (h : SpanReady s) (h₄ : at + length (spanBytes 0 s) ≤ length b) where
+  -- there is room: no refusal
+  module _ (k : ℕ) (q : r ≡ Refused k) where
+    pub never-place : at ≡ at + length (spanBytes 0 s)
+    never-place = never r (length (spanBytes 0 s)) k (smallest-written b at x s r b₁ h₁ (h .ends) (h .part) p h₄) q
+
+    pub never-stored : b₁ ≡ put b at (spanBytes x s)
+    never-stored = never r (length (spanBytes 0 s)) k (smallest-written b at x s r b₁ h₁ (h .ends) (h .part) p h₄) q
 
   module _ (n : ℕ) (q : r ≡ Written n) where
     pub span-place : at + n ≡ at + length (spanBytes 0 s)
-    span-place = ap (λ j. at + j) (smallest-count b at x s r b₁ h₁ h₂ h₃ p h₄ n q)
+    span-place = ap (λ j. at + j) (smallest-count b at x s r b₁ h₁ (h .ends) (h .part) p h₄ n q)
 
-    pub span-room : at + n ≤ length b
-    span-room = omega (arith, smallest-count b at x s r b₁ h₁ h₂ h₃ p h₄ n q)
+    pub span-room : length b < 18446744073709551616 → at + n < 18446744073709551616
+    span-room g = omega (arith, smallest-count b at x s r b₁ h₁ (h .ends) (h .part) p h₄ n q)
 
     pub span-stored : b₁ ≡ put b at (spanBytes x s)
-    span-stored = smallest-contents b at x s r b₁ h₁ h₂ h₃ p h₄
+    span-stored = smallest-contents b at x s r b₁ h₁ (h .ends) (h .part) p h₄
 
 module _ (b b₁ b₂ : List ℕ) (at : ℕ) where
   pub two-put : (x y : ℕ) → b₁ ≡ put b at (x ∷ []) → b₂ ≡ put b₁ (at + 1) (y ∷ []) → at + 2 ≤ length b → b₂ ≡ put b at (x ∷ y ∷ [])
@@ -118,10 +124,8 @@ module _ (b b₁ b₂ : List ℕ) (at : ℕ) where
 pub kept : (a b c : ℕ) → a ≡ b → b ≡ c → a ≡ c
 kept a b c e f = e ∙ f
 
-pub ruleset piece-cases = (span-never, span-place, span-room, span-stored, two-put, three-bytes, heavy-contents, symbol-contents, kept)
+pub ruleset piece-cases = (never-place, never-stored, span-place, span-room, span-stored, two-put, three-bytes, heavy-contents, symbol-contents, kept)
 
-pub ruleset leaf-cases = (ascii-put, three-put, ident-put, other-put, short-put, raw-put, long-put)
+pub ruleset leaf-cases = (ascii-put, three-put, ident-put, other-put, short-put, raw-put, long-put, kept)
 
-pub ruleset subtree-cases = (half-put, close-put, apart-put, root-close-put, root-put)
-
-pub ruleset put-cases = (piece-cases, leaf-cases, subtree-cases)
+pub ruleset subtree-cases = (half-put, close-put, apart-put, root-close-put, root-put, kept)

@@ -11,14 +11,15 @@ use Rattle.format.specs.Test.{if_then_else_}
 use Rattle.format.specs.Verdict.{passed, _andThen_, rule}
 use Rattle.format.specs.Word.{put}
 use Rattle.format.specs.Span.{Span}
-use Rattle.format.specs.Tree.{Raw, punct, ident, literal, subtree}
+use Rattle.format.specs.Tree.{Raw, subtree}
 use Rattle.format.specs.Fields.{spanFits, isScalar, isRawKind, fields}
 use Rattle.format.specs.Write.{join, heavyBytes, spanBytes, symbolBytes, rootBytes, treeBytes}
 use Rattle.format.specs.Pack.{roomFor}
 use Rattle.format.proofs.Each.{both, rule-passed, and-left, and-right, and₃, and₄}
 use Rattle.pack.specs.Answer.{spanOf, packedAnswer}
 use Rattle.pack.specs.declared.Packed.the-variants.{Written, Refused}
-use Rattle.tree.specs.Raw.{rawOf}
+use Rattle.tree.specs.Raw.{rawOf, punctRaw, identRaw, literalRaw, subtreeRaw}
+use Rattle.encode.specs.Ready.{spanSize, symbolSize, SpanReady, PunctReady, IdentReady, LiteralReady, SubtreeReady}
 use Rattle.encode.specs.Encode.{partFits, symbolFits, indices, packTree, TreePacked}
 use Rattle.tree.specs.declared.raw.RawPunct.{RawPunct}
 use Rattle.tree.specs.declared.raw.RawIdent.{RawIdent}
@@ -101,162 +102,126 @@ module _ (b : List ℕ) (at m : ℕ) (t : Raw) (kids : ℕ) (e : packTree b at m
   pub passed-room : at + length (treeBytes m t kids) ≤ length b
   passed-room = leb-true (at + length (treeBytes m t kids)) (length b) (rule-passed (leb (at + length (treeBytes m t kids)) (length b)) 6 0 (both (rule (indices t) 8 0) (roomFor b at (treeBytes m t kids)) (split .1) .1))
 
-raw-count-255 : (k r : ℕ) (y : Bool) → (if y then leb r 255 else eqb r 0) ≡ true → r ≤ 255
-raw-count-255 k r true e = leb-true r 255 e
-raw-count-255 k r false e = let h = eqb-true r 0 e in omega arith
+raw-count-255 : (r : ℕ) (y : Bool) → (if y then leb r 255 else eqb r 0) ≡ true → r ≤ 255
+raw-count-255 r true e = leb-true r 255 e
+raw-count-255 r false e = let h = eqb-true r 0 e in omega arith
 
-module _ (b : List ℕ) (at m kids : ℕ) (p : RawSubtree) (e : packTree b at m (subtree (spanOf (p .opening)) (spanOf (p .closing)) (p .len .0) (p .kind)) kids ≡ passed) where
-  parts-subtree : (spanFits (spanOf (p .opening)) ≡ true) × (spanFits (spanOf (p .closing)) ≡ true) × (leb (p .kind) 3 ≡ true)
-  parts-subtree = and₃ (spanFits (spanOf (p .opening))) (spanFits (spanOf (p .closing))) (leb (p .kind) 3) (passed-fields b at m (subtree (spanOf (p .opening)) (spanOf (p .closing)) (p .len .0) (p .kind)) kids e)
+span-ready : (s : Span) → spanFits s ≡ true → partFits s ≡ true → SpanReady s
+span-ready s e f = record { ends = leb-true (s .start + s .len) 4294967295 e; part = ltb-true (s .index) 268435456 f }
 
-  indices-subtree : indices (subtree (spanOf (p .opening)) (spanOf (p .closing)) (p .len .0) (p .kind)) ≡ true
-  indices-subtree = passed-indices b at m (subtree (spanOf (p .opening)) (spanOf (p .closing)) (p .len .0) (p .kind)) kids e
+module _ (p : RawPunct) (e : fields (punctRaw p) ≡ true) (f : indices (punctRaw p) ≡ true) where
+  fit-punct : PunctReady p
+  fit-punct =
+      let a = and₃ (spanFits (spanOf (p .span))) (isScalar (p .char)) (leb (p .spacing) 2) e in
+      record { span = span-ready (spanOf (p .span)) (a .0) f; spacing = leb-true (p .spacing) 2 (a .2) }
 
-  pub open-range : p .opening .start + p .opening .len ≤ 4294967295
-  open-range = leb-true (p .opening .start + p .opening .len) 4294967295 (parts-subtree .0)
+module _ (p : RawIdent) (e : fields (identRaw p) ≡ true) (f : indices (identRaw p) ≡ true) where
+  fit-ident : IdentReady p
+  fit-ident =
+      record {
+        span = span-ready (spanOf (p .span)) (and-left (spanFits (spanOf (p .span))) (leb (p .raw) 1) e) (and-left (partFits (spanOf (p .span))) (symbolFits (p .symbol)) f);
+        symbol = ltb-true (p .symbol) 536870912 (and-right (partFits (spanOf (p .span))) (symbolFits (p .symbol)) f);
+        raw = leb-true (p .raw) 1 (and-right (spanFits (spanOf (p .span))) (leb (p .raw) 1) e);
+      }
 
-  pub close-range : p .closing .start + p .closing .len ≤ 4294967295
-  close-range = leb-true (p .closing .start + p .closing .len) 4294967295 (parts-subtree .1)
+module _ (p : RawLiteral) (e : fields (literalRaw p) ≡ true) (f : indices (literalRaw p) ≡ true) where
+  fit-literal : LiteralReady p
+  fit-literal =
+      let a = and₄ (spanFits (spanOf (p .span))) (leb (p .kind) 10) (if isRawKind (p .kind) then leb (p .«raw_count») 255 else eqb (p .«raw_count») 0) (leb (p .«suffix_len») 255) e in
+      record {
+        span = span-ready (spanOf (p .span)) (a .0) (and-left (partFits (spanOf (p .span))) (symbolFits (p .symbol)) f);
+        symbol = ltb-true (p .symbol) 536870912 (and-right (partFits (spanOf (p .span))) (symbolFits (p .symbol)) f);
+        kind = leb-true (p .kind) 10 (a .1);
+        count = raw-count-255 (p .«raw_count») (isRawKind (p .kind)) (a .2);
+        suffix = leb-true (p .«suffix_len») 255 (a .3);
+      }
 
-  pub subtree-kind : p .kind ≤ 3
-  subtree-kind = leb-true (p .kind) 3 (parts-subtree .2)
+module _ (p : RawSubtree) (e : fields (subtreeRaw p) ≡ true) (f : indices (subtreeRaw p) ≡ true) where
+  fit-subtree : SubtreeReady p
+  fit-subtree =
+      let a = and₃ (spanFits (spanOf (p .opening))) (spanFits (spanOf (p .closing))) (leb (p .kind) 3) e in
+      record {
+        opening = span-ready (spanOf (p .opening)) (a .0) (and-left (partFits (spanOf (p .opening))) (partFits (spanOf (p .closing))) f);
+        closing = span-ready (spanOf (p .closing)) (a .1) (and-right (partFits (spanOf (p .opening))) (partFits (spanOf (p .closing))) f);
+        kind = leb-true (p .kind) 3 (a .2);
+      }
 
-  pub open-index : p .opening .index < 268435456
-  open-index = ltb-true (p .opening .index) 268435456 (and-left (partFits (spanOf (p .opening))) (partFits (spanOf (p .closing))) indices-subtree)
-
-  pub close-index : p .closing .index < 268435456
-  close-index = ltb-true (p .closing .index) 268435456 (and-right (partFits (spanOf (p .opening))) (partFits (spanOf (p .closing))) indices-subtree)
-
-  pub subtree-room : at + length (treeBytes m (subtree (spanOf (p .opening)) (spanOf (p .closing)) (p .len .0) (p .kind)) kids) ≤ length b
-  subtree-room = passed-room b at m (subtree (spanOf (p .opening)) (spanOf (p .closing)) (p .len .0) (p .kind)) kids e
-
+-- a tree below the root
 module _ (b : List ℕ) (at kids : ℕ) (tree : RawTree) (e : packTree b at 1 (rawOf tree) kids ≡ passed) where
   module _ (p : RawPunct) (h : tree ≡ Punct p) where
-    ok-punct : packTree b at 1 (punct (spanOf (p .span)) (p .char) (p .spacing)) kids ≡ passed
+    ok-punct : packTree b at 1 (punctRaw p) kids ≡ passed
     unfolding rawOf
     ok-punct = subst (λ (u : RawTree). packTree b at 1 (rawOf u) kids ≡ passed) h e
 
-    parts-punct : (spanFits (spanOf (p .span)) ≡ true) × (isScalar (p .char) ≡ true) × (leb (p .spacing) 2 ≡ true)
-    parts-punct = and₃ (spanFits (spanOf (p .span))) (isScalar (p .char)) (leb (p .spacing) 2) (passed-fields b at 1 (punct (spanOf (p .span)) (p .char) (p .spacing)) kids ok-punct)
+    pub punct-ready : PunctReady p
+    punct-ready = fit-punct p (passed-fields b at 1 (punctRaw p) kids ok-punct) (passed-indices b at 1 (punctRaw p) kids ok-punct)
 
-    pub punct-range : p .span .start + p .span .len ≤ 4294967295
-    punct-range = leb-true (p .span .start + p .span .len) 4294967295 (parts-punct .0)
-
-    pub punct-spacing : p .spacing ≤ 2
-    punct-spacing = leb-true (p .spacing) 2 (parts-punct .2)
-
-    pub punct-index : p .span .index < 268435456
-    punct-index = ltb-true (p .span .index) 268435456 (passed-indices b at 1 (punct (spanOf (p .span)) (p .char) (p .spacing)) kids ok-punct)
-
-    pub punct-room : at + length (treeBytes 1 (punct (spanOf (p .span)) (p .char) (p .spacing)) 0) ≤ length b
+    pub punct-room : at + length (treeBytes 1 (punctRaw p) 0) ≤ length b
     unfolding treeBytes
-    punct-room = passed-room b at 1 (punct (spanOf (p .span)) (p .char) (p .spacing)) kids ok-punct
+    punct-room = passed-room b at 1 (punctRaw p) kids ok-punct
 
-    pub punct-put : (b₁ : List ℕ) → b₁ ≡ put b at (treeBytes 1 (punct (spanOf (p .span)) (p .char) (p .spacing)) 0) → b₁ ≡ put b at (treeBytes 1 (rawOf tree) kids)
+    pub punct-put : (b₁ : List ℕ) → b₁ ≡ put b at (treeBytes 1 (punctRaw p) 0) → b₁ ≡ put b at (treeBytes 1 (rawOf tree) kids)
     unfolding treeBytes rawOf
     punct-put b₁ q = q ∙ rw h
 
   module _ (p : RawIdent) (h : tree ≡ Ident p) where
-    ok-ident : packTree b at 1 (ident (spanOf (p .span)) (p .symbol) (p .raw)) kids ≡ passed
+    ok-ident : packTree b at 1 (identRaw p) kids ≡ passed
     unfolding rawOf
     ok-ident = subst (λ (u : RawTree). packTree b at 1 (rawOf u) kids ≡ passed) h e
 
-    fields-ident : fields (ident (spanOf (p .span)) (p .symbol) (p .raw)) ≡ true
-    fields-ident = passed-fields b at 1 (ident (spanOf (p .span)) (p .symbol) (p .raw)) kids ok-ident
+    pub ident-ready : IdentReady p
+    ident-ready = fit-ident p (passed-fields b at 1 (identRaw p) kids ok-ident) (passed-indices b at 1 (identRaw p) kids ok-ident)
 
-    indices-ident : indices (ident (spanOf (p .span)) (p .symbol) (p .raw)) ≡ true
-    indices-ident = passed-indices b at 1 (ident (spanOf (p .span)) (p .symbol) (p .raw)) kids ok-ident
-
-    pub ident-range : p .span .start + p .span .len ≤ 4294967295
-    ident-range = leb-true (p .span .start + p .span .len) 4294967295 (and-left (spanFits (spanOf (p .span))) (leb (p .raw) 1) fields-ident)
-
-    pub ident-raw : p .raw ≤ 1
-    ident-raw = leb-true (p .raw) 1 (and-right (spanFits (spanOf (p .span))) (leb (p .raw) 1) fields-ident)
-
-    pub ident-index : p .span .index < 268435456
-    ident-index = ltb-true (p .span .index) 268435456 (and-left (partFits (spanOf (p .span))) (symbolFits (p .symbol)) indices-ident)
-
-    pub ident-symbol : p .symbol < 536870912
-    ident-symbol = ltb-true (p .symbol) 536870912 (and-right (partFits (spanOf (p .span))) (symbolFits (p .symbol)) indices-ident)
-
-    pub ident-room : at + length (spanBytes 0 (spanOf (p .span))) + length (symbolBytes 0 (p .symbol)) ≤ length b
+    pub ident-room : at + spanSize (spanOf (p .span)) + symbolSize (p .symbol) ≤ length b
     ident-room =
-        let r = passed-room b at 1 (ident (spanOf (p .span)) (p .symbol) (p .raw)) kids ok-ident in
-        omega (arith, size-ident (spanOf (p .span)) (length (spanBytes 0 (spanOf (p .span)))) refl (p .symbol) (length (symbolBytes 0 (p .symbol))) refl (p .raw) kids)
+        let r = passed-room b at 1 (identRaw p) kids ok-ident in
+        omega (arith, size-ident (spanOf (p .span)) (spanSize (spanOf (p .span))) refl (p .symbol) (symbolSize (p .symbol)) refl (p .raw) kids)
 
     pub ident-put : (b₁ : List ℕ) → b₁ ≡ put b at (join (spanBytes 2 (spanOf (p .span)) ∷ symbolBytes (p .raw) (p .symbol) ∷ [])) → b₁ ≡ put b at (treeBytes 1 (rawOf tree) kids)
     unfolding treeBytes rawOf
     ident-put b₁ q = q ∙ rw h
 
   module _ (p : RawLiteral) (h : tree ≡ Literal p) where
-    ok-literal : packTree b at 1 (literal (spanOf (p .span)) (p .symbol) (p .kind) (p .«raw_count») (p .«suffix_len»)) kids ≡ passed
+    ok-literal : packTree b at 1 (literalRaw p) kids ≡ passed
     unfolding rawOf
     ok-literal = subst (λ (u : RawTree). packTree b at 1 (rawOf u) kids ≡ passed) h e
 
-    parts-literal : (spanFits (spanOf (p .span)) ≡ true) × (leb (p .kind) 10 ≡ true) × ((if isRawKind (p .kind) then leb (p .«raw_count») 255 else eqb (p .«raw_count») 0) ≡ true) × (leb (p .«suffix_len») 255 ≡ true)
-    parts-literal =
-        and₄ (spanFits (spanOf (p .span))) (leb (p .kind) 10) (if isRawKind (p .kind) then leb (p .«raw_count») 255 else eqb (p .«raw_count») 0) (leb (p .«suffix_len») 255)
-        (passed-fields b at 1 (literal (spanOf (p .span)) (p .symbol) (p .kind) (p .«raw_count») (p .«suffix_len»)) kids ok-literal)
+    pub literal-ready : LiteralReady p
+    literal-ready = fit-literal p (passed-fields b at 1 (literalRaw p) kids ok-literal) (passed-indices b at 1 (literalRaw p) kids ok-literal)
 
-    indices-literal : indices (literal (spanOf (p .span)) (p .symbol) (p .kind) (p .«raw_count») (p .«suffix_len»)) ≡ true
-    indices-literal = passed-indices b at 1 (literal (spanOf (p .span)) (p .symbol) (p .kind) (p .«raw_count») (p .«suffix_len»)) kids ok-literal
-
-    pub literal-range : p .span .start + p .span .len ≤ 4294967295
-    literal-range = leb-true (p .span .start + p .span .len) 4294967295 (parts-literal .0)
-
-    pub literal-kind : p .kind ≤ 10
-    literal-kind = leb-true (p .kind) 10 (parts-literal .1)
-
-    pub literal-count : p .«raw_count» ≤ 255
-    literal-count = raw-count-255 (p .kind) (p .«raw_count») (isRawKind (p .kind)) (parts-literal .2)
-
-    pub literal-suffix : p .«suffix_len» ≤ 255
-    literal-suffix = leb-true (p .«suffix_len») 255 (parts-literal .3)
-
-    pub literal-index : p .span .index < 268435456
-    literal-index = ltb-true (p .span .index) 268435456 (and-left (partFits (spanOf (p .span))) (symbolFits (p .symbol)) indices-literal)
-
-    pub literal-symbol : p .symbol < 536870912
-    literal-symbol = ltb-true (p .symbol) 536870912 (and-right (partFits (spanOf (p .span))) (symbolFits (p .symbol)) indices-literal)
-
-    pub literal-room : at + length (treeBytes 1 (literal (spanOf (p .span)) (p .symbol) (p .kind) (p .«raw_count») (p .«suffix_len»)) 0) ≤ length b
+    pub literal-room : at + length (treeBytes 1 (literalRaw p) 0) ≤ length b
     unfolding treeBytes
-    literal-room = passed-room b at 1 (literal (spanOf (p .span)) (p .symbol) (p .kind) (p .«raw_count») (p .«suffix_len»)) kids ok-literal
+    literal-room = passed-room b at 1 (literalRaw p) kids ok-literal
 
-    pub literal-put : (b₁ : List ℕ) → b₁ ≡ put b at (treeBytes 1 (literal (spanOf (p .span)) (p .symbol) (p .kind) (p .«raw_count») (p .«suffix_len»)) 0) → b₁ ≡ put b at (treeBytes 1 (rawOf tree) kids)
+    pub literal-put : (b₁ : List ℕ) → b₁ ≡ put b at (treeBytes 1 (literalRaw p) 0) → b₁ ≡ put b at (treeBytes 1 (rawOf tree) kids)
     unfolding treeBytes rawOf
     literal-put b₁ q = q ∙ rw h
 
   module _ (p : RawSubtree) (h : tree ≡ Subtree p) where
-    subtree-passed : packTree b at 1 (subtree (spanOf (p .opening)) (spanOf (p .closing)) (p .len .0) (p .kind)) kids ≡ passed
+    ok-subtree : packTree b at 1 (subtreeRaw p) kids ≡ passed
     unfolding rawOf
-    subtree-passed = subst (λ (u : RawTree). packTree b at 1 (rawOf u) kids ≡ passed) h e
+    ok-subtree = subst (λ (u : RawTree). packTree b at 1 (rawOf u) kids ≡ passed) h e
 
-    pub subtree-put : (b₁ : List ℕ) → b₁ ≡ put b at (treeBytes 1 (subtree (spanOf (p .opening)) (spanOf (p .closing)) (p .len .0) (p .kind)) kids) → b₁ ≡ put b at (treeBytes 1 (rawOf tree) kids)
+    pub subtree-ready : SubtreeReady p
+    subtree-ready = fit-subtree p (passed-fields b at 1 (subtreeRaw p) kids ok-subtree) (passed-indices b at 1 (subtreeRaw p) kids ok-subtree)
+
+    pub subtree-room : at + length (treeBytes 1 (subtreeRaw p) kids) ≤ length b
+    subtree-room = passed-room b at 1 (subtreeRaw p) kids ok-subtree
+
+    pub subtree-put : (b₁ : List ℕ) → b₁ ≡ put b at (treeBytes 1 (subtreeRaw p) kids) → b₁ ≡ put b at (treeBytes 1 (rawOf tree) kids)
     unfolding rawOf
     subtree-put b₁ q = q ∙ rw h
 
-    pub below-open-range : p .opening .start + p .opening .len ≤ 4294967295
-    below-open-range = open-range b at 1 kids p subtree-passed
+-- the root
+module _ (b : List ℕ) (at kids : ℕ) (p : RawSubtree) (e : packTree b at 0 (subtreeRaw p) kids ≡ passed) where
+  pub root-ready : SubtreeReady p
+  root-ready = fit-subtree p (passed-fields b at 0 (subtreeRaw p) kids e) (passed-indices b at 0 (subtreeRaw p) kids e)
 
-    pub below-open-index : p .opening .index < 268435456
-    below-open-index = open-index b at 1 kids p subtree-passed
+  pub root-room : at + 33 ≤ length b
+  root-room =
+      let r = passed-room b at 0 (subtreeRaw p) kids e in
+      omega (arith, root-33 (spanOf (p .opening)) (spanOf (p .closing)) (p .len .0) (p .kind) kids)
 
-    pub below-close-range : p .closing .start + p .closing .len ≤ 4294967295
-    below-close-range = close-range b at 1 kids p subtree-passed
+pub ruleset passed-cases = (punct-ready, punct-room, punct-put, ident-ready, ident-room, ident-put, literal-ready, literal-room, literal-put, subtree-ready, subtree-room, subtree-put)
 
-    pub below-close-index : p .closing .index < 268435456
-    below-close-index = close-index b at 1 kids p subtree-passed
-
-    pub below-kind : p .kind ≤ 3
-    below-kind = subtree-kind b at 1 kids p subtree-passed
-
-    pub below-room : at + length (treeBytes 1 (subtree (spanOf (p .opening)) (spanOf (p .closing)) (p .len .0) (p .kind)) kids) ≤ length b
-    below-room = subtree-room b at 1 kids p subtree-passed
-
-pub root-room : (b : List ℕ) (at kids : ℕ) (p : RawSubtree) → packTree b at 0 (subtree (spanOf (p .opening)) (spanOf (p .closing)) (p .len .0) (p .kind)) kids ≡ passed → at + 33 ≤ length b
-root-room b at kids p e =
-    let r = subtree-room b at 0 kids p e in
-    omega (arith, root-33 (spanOf (p .opening)) (spanOf (p .closing)) (p .len .0) (p .kind) kids)
-
-pub ruleset passed-cases = (punct-range, punct-spacing, punct-index, punct-room, punct-put, ident-range, ident-raw, ident-index, ident-symbol, ident-room, ident-put, literal-range, literal-kind, literal-count, literal-suffix, literal-index, literal-symbol, literal-room, literal-put, subtree-put, below-open-range, below-open-index, below-close-range, below-close-index, below-kind, below-room, open-range, close-range, subtree-kind, open-index, close-index, subtree-room, root-room)
+pub ruleset root-cases = (root-ready, root-room)

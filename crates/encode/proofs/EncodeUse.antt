@@ -1,12 +1,10 @@
 -- What a caller learns from the contracts of `encode` and `encode_top_subtree`, without opening a definition.
 use Prim.Native.Nat.{ℕ, _+_, _≤_, _<_}
 use mathlib.Core.Bool.{true}
-use mathlib.Core.Path.{_≡_, refl, sym, ap, _∙_}
+use mathlib.Core.Path.{_≡_, refl, sym, _∙_}
 use mathlib.Core.List.{List}
 use borrow.Author.Tests.{le-leb, lt-ltb, ne-eqb}
-use lib.Dec.{leb, eqb}
 use lib.ListN.{length}
-use Rattle.format.specs.Test.{if_then_else_}
 use Rattle.format.specs.Verdict.{Verdict, passed, refused, report}
 use Rattle.format.specs.Verdict as verdict
 use Rattle.format.specs.Word.{put}

@@ -15,7 +15,7 @@ use Rattle.format.proofs.Each.{and-right}
 use Rattle.format.proofs.TreeBack.{near-true}
 use Rattle.pack.specs.Answer.{spanOf}
 use Rattle.pack.proofs.Sizes.{span-length, symbol-length, form-most, symbol-most}
-use Rattle.tree.specs.Raw.{rawOf}
+use Rattle.tree.specs.Raw.{rawOf, punctRaw, identRaw, literalRaw, subtreeRaw}
 use Rattle.encode.specs.Encode.{subtreeForm}
 use Rattle.tree.specs.declared.raw.RawPunct.{RawPunct}
 use Rattle.tree.specs.declared.raw.RawIdent.{RawIdent}
@@ -184,21 +184,7 @@ module _ (k r : ℕ) where
       pub short-fits : x ≤ 15 → true ≡ (ltb 0 (shortBase k r) && leb x 15)
       short-fits g = let b : ltb 0 (shortBase k r) ≡ true = some in simp (b, le-leb _ _ g)
 
-  pub raw-5 : k ≡ 5 → true ≡ isRawKind k
-  raw-5 h = simp (eq-eqb _ _ h)
-
-  module _ (h : k ≡ 5 → ⊥) where
-    pub raw-7 : k ≡ 7 → true ≡ isRawKind k
-    raw-7 g = simp (ne-eqb _ _ h, eq-eqb _ _ g)
-
-    module _ (g : k ≡ 7 → ⊥) where
-      pub raw-9 : k ≡ 9 → true ≡ isRawKind k
-      raw-9 a = simp (ne-eqb _ _ h, ne-eqb _ _ g, eq-eqb _ _ a)
-
-      pub raw-none : (k ≡ 9 → ⊥) → false ≡ isRawKind k
-      raw-none a = simp (ne-eqb _ _ h, ne-eqb _ _ g, ne-eqb _ _ a)
-
-pub ruleset literal-cases = (base-str, base-integer, base-other, base-raw-0, base-raw-1, base-raw, short-not, short-suffix, short-fits, raw-5, raw-7, raw-9, raw-none)
+pub ruleset literal-cases = (base-str, base-integer, base-other, base-raw-0, base-raw-1, base-raw, short-not, short-suffix, short-fits)
 
 -- ---- what the form tells
 
@@ -306,22 +292,20 @@ size-brackets s t n d k f g h m e =
     simp (a, length-append) (omega arith)
 
 module _ (tree : RawTree) (kids r : ℕ) where
-  pub size-of-punct : (p : RawPunct) → tree ≡ Punct p → r ≡ length (treeBytes 1 (punct (spanOf (p .span)) (p .char) (p .spacing)) 0) → r ≡ length (treeBytes 1 (rawOf tree) kids)
+  pub size-of-punct : (p : RawPunct) → tree ≡ Punct p → r ≡ length (treeBytes 1 (punctRaw p) 0) → r ≡ length (treeBytes 1 (rawOf tree) kids)
   unfolding treeBytes rawOf
   size-of-punct p e f = f ∙ rw e
 
-  pub size-of-ident : (p : RawIdent) → tree ≡ Ident p → r ≡ length (treeBytes 1 (ident (spanOf (p .span)) (p .symbol) (p .raw)) 0) → r ≡ length (treeBytes 1 (rawOf tree) kids)
+  pub size-of-ident : (p : RawIdent) → tree ≡ Ident p → r ≡ length (treeBytes 1 (identRaw p) 0) → r ≡ length (treeBytes 1 (rawOf tree) kids)
   unfolding treeBytes rawOf
   size-of-ident p e f = f ∙ rw e
 
-  pub size-of-literal : (p : RawLiteral) → tree ≡ Literal p → r ≡ length (treeBytes 1 (literal (spanOf (p .span)) (p .symbol) (p .kind) (p .«raw_count») (p .«suffix_len»)) 0) → r ≡ length (treeBytes 1 (rawOf tree) kids)
+  pub size-of-literal : (p : RawLiteral) → tree ≡ Literal p → r ≡ length (treeBytes 1 (literalRaw p) 0) → r ≡ length (treeBytes 1 (rawOf tree) kids)
   unfolding treeBytes rawOf
   size-of-literal p e f = f ∙ rw e
 
-  pub size-of-subtree : (p : RawSubtree) → tree ≡ Subtree p → r ≡ length (treeBytes 1 (subtree (spanOf (p .opening)) (spanOf (p .closing)) (p .len .0) (p .kind)) kids) → r ≡ length (treeBytes 1 (rawOf tree) kids)
+  pub size-of-subtree : (p : RawSubtree) → tree ≡ Subtree p → r ≡ length (treeBytes 1 (subtreeRaw p) kids) → r ≡ length (treeBytes 1 (rawOf tree) kids)
   unfolding rawOf
   size-of-subtree p e f = f ∙ rw e
 
 pub ruleset tree-size-cases = (brackets-order, span-bound, symbol-bound, size-ascii, size-other, size-ident, size-short, size-raw, size-long, size-brackets, size-equal, size-parts, size-apart, size-of-punct, size-of-ident, size-of-literal, size-of-subtree)
-
-pub ruleset size-cases = (near-cases, fits-cases, form-cases, literal-cases, tree-size-cases)

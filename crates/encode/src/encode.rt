@@ -27,15 +27,15 @@ ghost use mathlib.Core.Bool.{_&&_};
 ghost use mathlib.Core.List.{[], _∷_};
 ghost use Prim.Native.Nat.{_+_, _*_, _-_, _/_, _%_, _≤_, _<_};
 ghost use lib.ListN.{length};
-ghost use lib.Dec.{leb, eqb};
-ghost use Rattle.format.specs.Test.{if_then_else_};
+ghost use lib.Dec.{leb};
 ghost use Rattle.format.specs.Verdict.{passed};
 ghost use Rattle.format.specs.Word.{wordBytes, put};
-ghost use Rattle.format.specs.Fields.{spanFits, isScalar, isRawKind, fields};
-ghost use Rattle.format.specs.Tree.{punct, ident, literal, subtree};
-ghost use Rattle.format.specs.Write.{join, byte, spanBytes, heavyBytes, symbolBytes, shortBase, bytes000, bytes001, bytes010, bytes101, treeBytes};
+ghost use Rattle.format.specs.Write.{join, byte, spanBytes, heavyBytes, symbolBytes, shortBase, treeBytes};
+ghost use Rattle.format.specs.Write.{bytes000, bytes001, bytes010, bytes101};
 ghost use Rattle.pack.specs.Answer.{spanOf};
-ghost use Rattle.tree.specs.Raw.{rawOf};
+ghost use Rattle.tree.specs.Raw.{rawOf, punctRaw, literalRaw, subtreeRaw};
+ghost use Rattle.encode.specs.Ready.{spanSize, symbolSize, distanceSpan, Within};
+ghost use Rattle.encode.specs.Ready.{SpanReady, PunctReady, IdentReady, LiteralReady, SubtreeReady};
 ghost use Rattle.encode.specs.Encode.{partFits, symbolFits, indices, packTree, TreePacked};
 
 // The bytes of the root.
@@ -89,8 +89,11 @@ pub fn indices_fit(tree: RawTree) -> bool
 
 // Answers the place behind the span.
 fn put_span(out: &mut [u8], at: usize, span: PackedSpan, extra: u32) -> usize
-    requires { ⌜ (extra ≤ 3) × (span .start + span .len ≤ 4294967295) × (span .index < 268435456) × (at + length (spanBytes 0 (spanOf span)) ≤ length (now out)) ⌝ }
-    ensures { λ r. ⌜ (r ≡ at + length (spanBytes 0 (spanOf span))) × (now (out .exit) ≡ put (now (out .entry)) at (spanBytes extra (spanOf span))) ⌝ }
+    requires { ⌜ (extra ≤ 3) × SpanReady (spanOf span) × (at + spanSize (spanOf span) ≤ length (now out)) ⌝ }
+    ensures { λ r. ⌜
+        (r ≡ at + spanSize (spanOf span))
+        × (now (out .exit) ≡ put (now (out .entry)) at (spanBytes extra (spanOf span)))
+        ⌝ }
 {
     let Packed::Written(n) = encode_span_no_map(out, at, span, extra, false) else {
         return at;
@@ -99,14 +102,14 @@ fn put_span(out: &mut [u8], at: usize, span: PackedSpan, extra: u32) -> usize
 }
 
 fn put_heavy(out: &mut [u8], at: usize, span: PackedSpan)
-    requires { ⌜ (span .start + span .len ≤ 4294967295) × (span .index < 268435456) × (at + 12 ≤ length (now out)) ⌝ }
+    requires { ⌜ SpanReady (spanOf span) × (at + 12 ≤ length (now out)) ⌝ }
     ensures { λ _. ⌜ now (out .exit) ≡ put (now (out .entry)) at (heavyBytes 0 (spanOf span)) ⌝ }
 {
     encode_span_no_map(out, at, span, 0, true);
 }
 
 fn put_symbol(out: &mut [u8], at: usize, tag: u32, index: u32)
-    requires { ⌜ (tag ≤ 1) × (index < 536870912) × (at + length (symbolBytes 0 index) ≤ length (now out)) ⌝ }
+    requires { ⌜ (tag ≤ 1) × (index < 536870912) × (at + symbolSize index ≤ length (now out)) ⌝ }
     ensures { λ _. ⌜ now (out .exit) ≡ put (now (out .entry)) at (symbolBytes tag index) ⌝ }
 {
     encode_symbol(out, at, tag, index);
@@ -131,16 +134,22 @@ fn put_three(out: &mut [u8], at: usize, a: u32, b: u32, c: u32)
 // ---- leaves, form by form
 
 fn put_ascii(out: &mut [u8], at: usize, p: RawPunct)
-    requires { ⌜ (p .span .start + p .span .len ≤ 4294967295) × (p .span .index < 268435456) × (p .spacing ≤ 2) × (p .char < 128) × (at + length (spanBytes 0 (spanOf (p .span))) + 1 ≤ length (now out)) ⌝ }
-    ensures { λ _. ⌜ now (out .exit) ≡ put (now (out .entry)) at (join (spanBytes (1 + 2 * (p .spacing / 2)) (spanOf (p .span)) ∷ byte (2 * p .char + p .spacing % 2) ∷ [])) ⌝ }
+    requires { ⌜ PunctReady p × (p .char < 128) × (at + spanSize (spanOf (p .span)) + 1 ≤ length (now out)) ⌝ }
+    ensures { λ _. ⌜
+        now (out .exit) ≡ put (now (out .entry)) at
+        (join (spanBytes (1 + 2 * (p .spacing / 2)) (spanOf (p .span)) ∷ byte (2 * p .char + p .spacing % 2) ∷ []))
+        ⌝ }
 {
     let next = put_span(out, at, p.span, 1 + 2 * (p.spacing / 2));
     put_byte(out, next, 2 * p.char + p.spacing % 2);
 }
 
 fn put_other(out: &mut [u8], at: usize, p: RawPunct)
-    requires { ⌜ (p .span .start + p .span .len ≤ 4294967295) × (p .span .index < 268435456) × (p .spacing ≤ 2) × (at + length (spanBytes 0 (spanOf (p .span))) + 5 ≤ length (now out)) ⌝ }
-    ensures { λ _. ⌜ now (out .exit) ≡ put (now (out .entry)) at (join (spanBytes 0 (spanOf (p .span)) ∷ byte (6 + 8 * p .spacing) ∷ wordBytes (p .char) ∷ [])) ⌝ }
+    requires { ⌜ PunctReady p × (at + spanSize (spanOf (p .span)) + 5 ≤ length (now out)) ⌝ }
+    ensures { λ _. ⌜
+        now (out .exit) ≡ put (now (out .entry)) at
+        (join (spanBytes 0 (spanOf (p .span)) ∷ byte (6 + 8 * p .spacing) ∷ wordBytes (p .char) ∷ []))
+        ⌝ }
 {
     let next = put_span(out, at, p.span, 0);
     put_byte(out, next, 6 + 8 * p.spacing);
@@ -148,16 +157,26 @@ fn put_other(out: &mut [u8], at: usize, p: RawPunct)
 }
 
 fn put_ident(out: &mut [u8], at: usize, p: RawIdent)
-    requires { ⌜ (p .span .start + p .span .len ≤ 4294967295) × (p .span .index < 268435456) × (p .raw ≤ 1) × (p .symbol < 536870912) × (at + length (spanBytes 0 (spanOf (p .span))) + length (symbolBytes 0 (p .symbol)) ≤ length (now out)) ⌝ }
-    ensures { λ _. ⌜ now (out .exit) ≡ put (now (out .entry)) at (join (spanBytes 2 (spanOf (p .span)) ∷ symbolBytes (p .raw) (p .symbol) ∷ [])) ⌝ }
+    requires { ⌜ IdentReady p × (at + spanSize (spanOf (p .span)) + symbolSize (p .symbol) ≤ length (now out)) ⌝ }
+    ensures { λ _. ⌜
+        now (out .exit) ≡ put (now (out .entry)) at
+        (join (spanBytes 2 (spanOf (p .span)) ∷ symbolBytes (p .raw) (p .symbol) ∷ []))
+        ⌝ }
 {
     let next = put_span(out, at, p.span, 2);
     put_symbol(out, next, p.raw, p.symbol);
 }
 
 fn put_short(out: &mut [u8], at: usize, p: RawLiteral)
-    requires { ⌜ (p .span .start + p .span .len ≤ 4294967295) × (p .span .index < 268435456) × (p .symbol < 536870912) × (p .«suffix_len» ≤ 15) × (at + length (spanBytes 0 (spanOf (p .span))) + 1 + length (symbolBytes 0 (p .symbol)) ≤ length (now out)) ⌝ }
-    ensures { λ _. ⌜ now (out .exit) ≡ put (now (out .entry)) at (join (spanBytes 0 (spanOf (p .span)) ∷ byte (shortBase (p .kind) (p .«raw_count») + 16 * p .«suffix_len») ∷ symbolBytes 0 (p .symbol) ∷ [])) ⌝ }
+    requires { ⌜
+        LiteralReady p × (p .«suffix_len» ≤ 15)
+        × (at + spanSize (spanOf (p .span)) + 1 + symbolSize (p .symbol) ≤ length (now out))
+        ⌝ }
+    ensures { λ _. ⌜
+        now (out .exit) ≡ put (now (out .entry)) at
+        (join (spanBytes 0 (spanOf (p .span)) ∷ byte (shortBase (p .kind) (p .«raw_count») + 16 * p .«suffix_len»)
+        ∷ symbolBytes 0 (p .symbol) ∷ []))
+        ⌝ }
 {
     let base = short_base(p.kind, p.raw_count);
     let next = put_span(out, at, p.span, 0);
@@ -166,8 +185,12 @@ fn put_short(out: &mut [u8], at: usize, p: RawLiteral)
 }
 
 fn put_raw(out: &mut [u8], at: usize, p: RawLiteral)
-    requires { ⌜ (p .span .start + p .span .len ≤ 4294967295) × (p .span .index < 268435456) × (p .symbol < 536870912) × (p .kind ≤ 10) × (p .«raw_count» ≤ 255) × (p .«suffix_len» ≤ 255) × (at + length (spanBytes 0 (spanOf (p .span))) + 3 + length (symbolBytes 0 (p .symbol)) ≤ length (now out)) ⌝ }
-    ensures { λ _. ⌜ now (out .exit) ≡ put (now (out .entry)) at (join (spanBytes 0 (spanOf (p .span)) ∷ byte (7 + 8 * p .kind) ∷ byte (p .«raw_count») ∷ byte (p .«suffix_len») ∷ symbolBytes 0 (p .symbol) ∷ [])) ⌝ }
+    requires { ⌜ LiteralReady p × (at + spanSize (spanOf (p .span)) + 3 + symbolSize (p .symbol) ≤ length (now out)) ⌝ }
+    ensures { λ _. ⌜
+        now (out .exit) ≡ put (now (out .entry)) at
+        (join (spanBytes 0 (spanOf (p .span)) ∷ byte (7 + 8 * p .kind) ∷ byte (p .«raw_count») ∷ byte (p .«suffix_len»)
+        ∷ symbolBytes 0 (p .symbol) ∷ []))
+        ⌝ }
 {
     let next = put_span(out, at, p.span, 0);
     put_three(out, next, 7 + 8 * p.kind, p.raw_count, p.suffix_len);
@@ -175,8 +198,12 @@ fn put_raw(out: &mut [u8], at: usize, p: RawLiteral)
 }
 
 fn put_long(out: &mut [u8], at: usize, p: RawLiteral)
-    requires { ⌜ (p .span .start + p .span .len ≤ 4294967295) × (p .span .index < 268435456) × (p .symbol < 536870912) × (p .kind ≤ 10) × (p .«suffix_len» ≤ 255) × (at + length (spanBytes 0 (spanOf (p .span))) + 2 + length (symbolBytes 0 (p .symbol)) ≤ length (now out)) ⌝ }
-    ensures { λ _. ⌜ now (out .exit) ≡ put (now (out .entry)) at (join (spanBytes 0 (spanOf (p .span)) ∷ byte (7 + 8 * p .kind) ∷ byte (p .«suffix_len») ∷ symbolBytes 0 (p .symbol) ∷ [])) ⌝ }
+    requires { ⌜ LiteralReady p × (at + spanSize (spanOf (p .span)) + 2 + symbolSize (p .symbol) ≤ length (now out)) ⌝ }
+    ensures { λ _. ⌜
+        now (out .exit) ≡ put (now (out .entry)) at
+        (join (spanBytes 0 (spanOf (p .span)) ∷ byte (7 + 8 * p .kind) ∷ byte (p .«suffix_len»)
+        ∷ symbolBytes 0 (p .symbol) ∷ []))
+        ⌝ }
 {
     let next = put_span(out, at, p.span, 0);
     put_two(out, next, 7 + 8 * p.kind, p.suffix_len);
@@ -186,8 +213,14 @@ fn put_long(out: &mut [u8], at: usize, p: RawLiteral)
 // ---- subtrees, form by form
 
 fn put_brackets(out: &mut [u8], at: usize, p: RawSubtree, children: ChildrenBytes)
-    requires { ⌜ (p .opening .start + p .opening .len ≤ 4294967295) × (p .opening .index < 268435456) × (p .kind ≤ 3) × (p .opening .start ≤ p .closing .start) × (p .closing .start - p .opening .start ≤ 2047) × (p .len .0 ≤ 255) × (children .0 ≤ 255) × (at + length (spanBytes 0 (record { index = p .opening .index; start = p .opening .start; len = p .closing .start - p .opening .start })) + 3 ≤ length (now out)) ⌝ }
-    ensures { λ _. ⌜ now (out .exit) ≡ put (now (out .entry)) at (bytes000 (spanOf (p .opening)) (spanOf (p .closing)) (p .len .0) (p .kind) (children .0)) ⌝ }
+    requires { ⌜
+        SubtreeReady p × Within p (children .0) 2047 255
+        × (at + spanSize (distanceSpan p) + 3 ≤ length (now out))
+        ⌝ }
+    ensures { λ _. ⌜
+        now (out .exit) ≡ put (now (out .entry)) at
+        (bytes000 (spanOf (p .opening)) (spanOf (p .closing)) (p .len .0) (p .kind) (children .0))
+        ⌝ }
 {
     let distance = p.closing.start - p.opening.start;
     let span = PackedSpan {
@@ -206,8 +239,14 @@ fn put_brackets(out: &mut [u8], at: usize, p: RawSubtree, children: ChildrenByte
 }
 
 fn put_equal(out: &mut [u8], at: usize, p: RawSubtree, children: ChildrenBytes)
-    requires { ⌜ (p .opening .start + p .opening .len ≤ 4294967295) × (p .opening .index < 268435456) × (p .kind ≤ 3) × (p .opening .start ≤ p .closing .start) × (p .closing .start - p .opening .start ≤ 7) × (p .len .0 ≤ 255) × (children .0 ≤ 255) × (at + length (spanBytes 0 (spanOf (p .opening))) + 3 ≤ length (now out)) ⌝ }
-    ensures { λ _. ⌜ now (out .exit) ≡ put (now (out .entry)) at (bytes001 (spanOf (p .opening)) (spanOf (p .closing)) (p .len .0) (p .kind) (children .0)) ⌝ }
+    requires { ⌜
+        SubtreeReady p × Within p (children .0) 7 255
+        × (at + spanSize (spanOf (p .opening)) + 3 ≤ length (now out))
+        ⌝ }
+    ensures { λ _. ⌜
+        now (out .exit) ≡ put (now (out .entry)) at
+        (bytes001 (spanOf (p .opening)) (spanOf (p .closing)) (p .len .0) (p .kind) (children .0))
+        ⌝ }
 {
     let distance = p.closing.start - p.opening.start;
     let next = put_span(out, at, p.opening, 0);
@@ -221,8 +260,14 @@ fn put_equal(out: &mut [u8], at: usize, p: RawSubtree, children: ChildrenBytes)
 }
 
 fn put_two_parts(out: &mut [u8], at: usize, p: RawSubtree, children: ChildrenBytes)
-    requires { ⌜ (p .opening .start + p .opening .len ≤ 4294967295) × (p .opening .index < 268435456) × (p .kind ≤ 3) × (p .opening .start ≤ p .closing .start) × (p .closing .start - p .opening .start ≤ 255) × (p .len .0 ≤ 255) × (children .0 ≤ 4095) × (p .closing .index ≤ 127) × (at + length (spanBytes 0 (spanOf (p .opening))) + 5 ≤ length (now out)) ⌝ }
-    ensures { λ _. ⌜ now (out .exit) ≡ put (now (out .entry)) at (bytes010 (spanOf (p .opening)) (spanOf (p .closing)) (p .len .0) (p .kind) (children .0)) ⌝ }
+    requires { ⌜
+        SubtreeReady p × Within p (children .0) 255 4095 × (p .closing .index ≤ 127)
+        × (at + spanSize (spanOf (p .opening)) + 5 ≤ length (now out))
+        ⌝ }
+    ensures { λ _. ⌜
+        now (out .exit) ≡ put (now (out .entry)) at
+        (bytes010 (spanOf (p .opening)) (spanOf (p .closing)) (p .len .0) (p .kind) (children .0))
+        ⌝ }
 {
     let distance = p.closing.start - p.opening.start;
     let next = put_span(out, at, p.opening, 0);
@@ -238,8 +283,11 @@ fn put_two_parts(out: &mut [u8], at: usize, p: RawSubtree, children: ChildrenByt
 
 // The close span and both counts: what stands behind the control byte of form 101.
 fn put_close(out: &mut [u8], at: usize, span: PackedSpan, len: Descendants, children: ChildrenBytes)
-    requires { ⌜ (span .start + span .len ≤ 4294967295) × (span .index < 268435456) × (at + length (spanBytes 0 (spanOf span)) + 8 ≤ length (now out)) ⌝ }
-    ensures { λ _. ⌜ now (out .exit) ≡ put (now (out .entry)) at (join (spanBytes 0 (spanOf span) ∷ wordBytes (len .0) ∷ wordBytes (children .0) ∷ [])) ⌝ }
+    requires { ⌜ SpanReady (spanOf span) × (at + spanSize (spanOf span) + 8 ≤ length (now out)) ⌝ }
+    ensures { λ _. ⌜
+        now (out .exit) ≡ put (now (out .entry)) at
+        (join (spanBytes 0 (spanOf span) ∷ wordBytes (len .0) ∷ wordBytes (children .0) ∷ []))
+        ⌝ }
 {
     let next = put_span(out, at, span, 0);
     put_word(out, next, len.0);
@@ -247,8 +295,14 @@ fn put_close(out: &mut [u8], at: usize, span: PackedSpan, len: Descendants, chil
 }
 
 fn put_apart(out: &mut [u8], at: usize, p: RawSubtree, children: ChildrenBytes)
-    requires { ⌜ (p .opening .start + p .opening .len ≤ 4294967295) × (p .opening .index < 268435456) × (p .closing .start + p .closing .len ≤ 4294967295) × (p .closing .index < 268435456) × (p .kind ≤ 3) × (at + length (spanBytes 0 (spanOf (p .opening))) + 1 + length (spanBytes 0 (spanOf (p .closing))) + 8 ≤ length (now out)) ⌝ }
-    ensures { λ _. ⌜ now (out .exit) ≡ put (now (out .entry)) at (bytes101 (spanOf (p .opening)) (spanOf (p .closing)) (p .len .0) (p .kind) (children .0)) ⌝ }
+    requires { ⌜
+        SubtreeReady p
+        × (at + spanSize (spanOf (p .opening)) + 1 + spanSize (spanOf (p .closing)) + 8 ≤ length (now out))
+        ⌝ }
+    ensures { λ _. ⌜
+        now (out .exit) ≡ put (now (out .entry)) at
+        (bytes101 (spanOf (p .opening)) (spanOf (p .closing)) (p .len .0) (p .kind) (children .0))
+        ⌝ }
 {
     let next = put_span(out, at, p.opening, 0);
     put_byte(out, next, 5 + 8 * p.kind);
@@ -263,8 +317,11 @@ fn put_root_close(
     len: Descendants,
     children: ChildrenBytes,
 )
-    requires { ⌜ (span .start + span .len ≤ 4294967295) × (span .index < 268435456) × (at + 20 ≤ length (now out)) ⌝ }
-    ensures { λ _. ⌜ now (out .exit) ≡ put (now (out .entry)) at (join (heavyBytes 0 (spanOf span) ∷ wordBytes (len .0) ∷ wordBytes (children .0) ∷ [])) ⌝ }
+    requires { ⌜ SpanReady (spanOf span) × (at + 20 ≤ length (now out)) ⌝ }
+    ensures { λ _. ⌜
+        now (out .exit) ≡ put (now (out .entry)) at
+        (join (heavyBytes 0 (spanOf span) ∷ wordBytes (len .0) ∷ wordBytes (children .0) ∷ []))
+        ⌝ }
 {
     put_heavy(out, at, span);
     put_word(out, at + 12, len.0);
@@ -272,8 +329,8 @@ fn put_root_close(
 }
 
 fn put_root(out: &mut [u8], at: usize, p: RawSubtree, children: ChildrenBytes)
-    requires { ⌜ (p .opening .start + p .opening .len ≤ 4294967295) × (p .opening .index < 268435456) × (p .closing .start + p .closing .len ≤ 4294967295) × (p .closing .index < 268435456) × (p .kind ≤ 3) × (at + 33 ≤ length (now out)) ⌝ }
-    ensures { λ _. ⌜ now (out .exit) ≡ put (now (out .entry)) at (treeBytes 0 (subtree (spanOf (p .opening)) (spanOf (p .closing)) (p .len .0) (p .kind)) (children .0)) ⌝ }
+    requires { ⌜ SubtreeReady p × (at + 33 ≤ length (now out)) ⌝ }
+    ensures { λ _. ⌜ now (out .exit) ≡ put (now (out .entry)) at (treeBytes 0 (subtreeRaw p) (children .0)) ⌝ }
 {
     put_heavy(out, at, p.opening);
     put_byte(out, at + 12, 5 + 8 * p.kind);
@@ -283,8 +340,8 @@ fn put_root(out: &mut [u8], at: usize, p: RawSubtree, children: ChildrenBytes)
 // ---- the form that is chosen
 
 fn put_punct(out: &mut [u8], at: usize, p: RawPunct)
-    requires { ⌜ (p .span .start + p .span .len ≤ 4294967295) × (p .span .index < 268435456) × (p .spacing ≤ 2) × (at + length (treeBytes 1 (punct (spanOf (p .span)) (p .char) (p .spacing)) 0) ≤ length (now out)) ⌝ }
-    ensures { λ _. ⌜ now (out .exit) ≡ put (now (out .entry)) at (treeBytes 1 (punct (spanOf (p .span)) (p .char) (p .spacing)) 0) ⌝ }
+    requires { ⌜ PunctReady p × (at + length (treeBytes 1 (punctRaw p) 0) ≤ length (now out)) ⌝ }
+    ensures { λ _. ⌜ now (out .exit) ≡ put (now (out .entry)) at (treeBytes 1 (punctRaw p) 0) ⌝ }
 {
     if p.char < ASCII {
         put_ascii(out, at, p);
@@ -294,8 +351,8 @@ fn put_punct(out: &mut [u8], at: usize, p: RawPunct)
 }
 
 fn put_literal(out: &mut [u8], at: usize, p: RawLiteral)
-    requires { ⌜ (p .span .start + p .span .len ≤ 4294967295) × (p .span .index < 268435456) × (p .symbol < 536870912) × (p .kind ≤ 10) × (p .«raw_count» ≤ 255) × (p .«suffix_len» ≤ 255) × (at + length (treeBytes 1 (literal (spanOf (p .span)) (p .symbol) (p .kind) (p .«raw_count») (p .«suffix_len»)) 0) ≤ length (now out)) ⌝ }
-    ensures { λ _. ⌜ now (out .exit) ≡ put (now (out .entry)) at (treeBytes 1 (literal (spanOf (p .span)) (p .symbol) (p .kind) (p .«raw_count») (p .«suffix_len»)) 0) ⌝ }
+    requires { ⌜ LiteralReady p × (at + length (treeBytes 1 (literalRaw p) 0) ≤ length (now out)) ⌝ }
+    ensures { λ _. ⌜ now (out .exit) ≡ put (now (out .entry)) at (treeBytes 1 (literalRaw p) 0) ⌝ }
 {
     if is_short(p) {
         put_short(out, at, p);
@@ -309,8 +366,8 @@ fn put_literal(out: &mut [u8], at: usize, p: RawLiteral)
 }
 
 fn put_subtree(out: &mut [u8], at: usize, p: RawSubtree, children: ChildrenBytes)
-    requires { ⌜ (p .opening .start + p .opening .len ≤ 4294967295) × (p .opening .index < 268435456) × (p .closing .start + p .closing .len ≤ 4294967295) × (p .closing .index < 268435456) × (p .kind ≤ 3) × (at + length (treeBytes 1 (subtree (spanOf (p .opening)) (spanOf (p .closing)) (p .len .0) (p .kind)) (children .0)) ≤ length (now out)) ⌝ }
-    ensures { λ _. ⌜ now (out .exit) ≡ put (now (out .entry)) at (treeBytes 1 (subtree (spanOf (p .opening)) (spanOf (p .closing)) (p .len .0) (p .kind)) (children .0)) ⌝ }
+    requires { ⌜ SubtreeReady p × (at + length (treeBytes 1 (subtreeRaw p) (children .0)) ≤ length (now out)) ⌝ }
+    ensures { λ _. ⌜ now (out .exit) ≡ put (now (out .entry)) at (treeBytes 1 (subtreeRaw p) (children .0)) ⌝ }
 {
     let form = form_of(p, children);
     match form {
@@ -337,8 +394,8 @@ fn put_tree(out: &mut [u8], at: usize, tree: RawTree, children: ChildrenBytes)
 }
 
 fn put_top(out: &mut [u8], at: usize, p: RawSubtree, children: ChildrenBytes)
-    requires { ⌜ packTree (now out) at 0 (subtree (spanOf (p .opening)) (spanOf (p .closing)) (p .len .0) (p .kind)) (children .0) ≡ passed ⌝ }
-    ensures { λ _. ⌜ now (out .exit) ≡ put (now (out .entry)) at (treeBytes 0 (subtree (spanOf (p .opening)) (spanOf (p .closing)) (p .len .0) (p .kind)) (children .0)) ⌝ }
+    requires { ⌜ packTree (now out) at 0 (subtreeRaw p) (children .0) ≡ passed ⌝ }
+    ensures { λ _. ⌜ now (out .exit) ≡ put (now (out .entry)) at (treeBytes 0 (subtreeRaw p) (children .0)) ⌝ }
 {
     put_root(out, at, p, children);
 }
@@ -381,7 +438,7 @@ pub fn encode_top_subtree(
     p: RawSubtree,
     children: ChildrenBytes,
 ) -> Packed
-    ensures { λ r. ⌜ TreePacked (now (out .entry)) at 0 (subtree (spanOf (p .opening)) (spanOf (p .closing)) (p .len .0) (p .kind)) (children .0) r (now (out .exit)) ⌝ }
+    ensures { λ r. ⌜ TreePacked (now (out .entry)) at 0 (subtreeRaw p) (children .0) r (now (out .exit)) ⌝ }
 {
     if !subtree_fits(p) {
         return Packed::Refused(2);

@@ -14,11 +14,10 @@ ghost use mathlib.Core.Bool.{_&&_};
 ghost use Prim.Native.Nat.{_≤_};
 ghost use lib.ListN.{length};
 ghost use lib.Dec.{ltb, leb};
-ghost use Rattle.format.specs.Fields.{isRawKind};
-ghost use Rattle.format.specs.Tree.{punct, ident, literal, subtree};
+ghost use Rattle.format.specs.Tree.{literal, subtree};
 ghost use Rattle.format.specs.Write.{spanBytes, symbolBytes, shortBase, near, fits000, fits001, fits010, treeBytes};
 ghost use Rattle.pack.specs.Answer.{spanOf};
-ghost use Rattle.tree.specs.Raw.{rawOf};
+ghost use Rattle.tree.specs.Raw.{rawOf, punctRaw, identRaw, literalRaw, subtreeRaw};
 ghost use Rattle.encode.specs.Encode.{subtreeForm};
 
 // A character below this is ASCII.
@@ -177,7 +176,7 @@ fn small_symbol(index: u32) -> usize
 }
 
 fn punct_size(p: RawPunct) -> usize
-    ensures { λ r. ⌜ r ≡ length (treeBytes 1 (punct (spanOf (p .span)) (p .char) (p .spacing)) 0) ⌝ }
+    ensures { λ r. ⌜ r ≡ length (treeBytes 1 (punctRaw p) 0) ⌝ }
 {
     let span = small_span(p.span);
     if p.char < ASCII {
@@ -187,7 +186,7 @@ fn punct_size(p: RawPunct) -> usize
 }
 
 fn ident_size(p: RawIdent) -> usize
-    ensures { λ r. ⌜ r ≡ length (treeBytes 1 (ident (spanOf (p .span)) (p .symbol) (p .raw)) 0) ⌝ }
+    ensures { λ r. ⌜ r ≡ length (treeBytes 1 (identRaw p) 0) ⌝ }
 {
     let span = small_span(p.span);
     let symbol = small_symbol(p.symbol);
@@ -195,7 +194,7 @@ fn ident_size(p: RawIdent) -> usize
 }
 
 fn literal_size(p: RawLiteral) -> usize
-    ensures { λ r. ⌜ r ≡ length (treeBytes 1 (literal (spanOf (p .span)) (p .symbol) (p .kind) (p .«raw_count») (p .«suffix_len»)) 0) ⌝ }
+    ensures { λ r. ⌜ r ≡ length (treeBytes 1 (literalRaw p) 0) ⌝ }
 {
     let span = small_span(p.span);
     let symbol = small_symbol(p.symbol);
@@ -209,7 +208,7 @@ fn literal_size(p: RawLiteral) -> usize
 }
 
 fn subtree_size(p: RawSubtree, children: ChildrenBytes) -> usize
-    ensures { λ r. ⌜ r ≡ length (treeBytes 1 (subtree (spanOf (p .opening)) (spanOf (p .closing)) (p .len .0) (p .kind)) (children .0)) ⌝ }
+    ensures { λ r. ⌜ r ≡ length (treeBytes 1 (subtreeRaw p) (children .0)) ⌝ }
 {
     let form = form_of(p, children);
     match form {

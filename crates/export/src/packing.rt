@@ -11,7 +11,8 @@ ghost use Prim.Native.Nat.{_≤_};
 ghost use lib.ListN.{length};
 ghost use Rattle.format.specs.Word.{put};
 ghost use Rattle.format.specs.Span.{spanAt, symbolAt};
-ghost use Rattle.export.specs.Code.{codeOf, SpanStored, SymbolStored, spanWords, symbolWords, SpanFound, SymbolFound};
+ghost use Rattle.export.specs.Code.{codeOf, spanWords, symbolWords};
+ghost use Rattle.export.specs.Code.{SpanStored, SymbolStored, SpanFound, SymbolFound};
 
 // A reply in one number: the bytes written, or 2^63 and the refusal's number.
 pub fn code_of(p: Packed) -> u64
@@ -33,7 +34,10 @@ pub extern "C" fn tt_encode_span(
     extra: u32,
     heavy: bool,
 ) -> u64
-    ensures { λ r. ⌜ SpanStored (now (out .entry)) at heavy extra (record { index = index; start = start; len = len }) r (now (out .exit)) ⌝ }
+    ensures { λ r. ⌜
+        SpanStored (now (out .entry)) at heavy extra (record { index = index; start = start; len = len })
+        r (now (out .exit))
+        ⌝ }
 {
     let span = PackedSpan {
         index: index,
@@ -63,7 +67,8 @@ fn store_span(words: &mut [u32], y: SpanAt)
     words[3] = y.extra;
 }
 
-// Index, start, length and extra bits go to four words; the answer is the place behind the span, or 2^63 and a refusal's number.
+// Index, start, length and extra bits go to four words.
+// The answer is the place behind the span, or 2^63 and a refusal's number.
 #[no_mangle]
 pub extern "C" fn tt_decode_span(b: &[u8], at: usize, words: &mut [u32]) -> u64
     ensures { λ r. ⌜ SpanFound (now (b .entry)) at (now (words .entry)) r (now (words .exit)) ⌝ }

@@ -1,7 +1,7 @@
 -- One law for each return of the functions of src/fields.rt, with premises as the code's tests and calls give them.
 use Prim.Native.Nat.{ℕ, _+_, _-_, _<_, _≤_}
-use mathlib.Core.Bool.{Bool, true, false, not, _&&_, _||_}
-use mathlib.Core.Path.{_≡_, refl, sym, ap, _∙_}
+use mathlib.Core.Bool.{Bool, true, false, not}
+use mathlib.Core.Path.{_≡_, sym, _∙_}
 use native.Mathlib.Omega.{arith}
 use borrow.Author.Tests.{le-leb, lt-leb, eq-eqb, ne-eqb, not-true, not-false}
 use lib.Dec.{leb, eqb}
@@ -10,7 +10,7 @@ use Rattle.format.specs.Span.{Span}
 use Rattle.format.specs.Tree.{punct, ident, literal, subtree}
 use Rattle.format.specs.Fields.{spanFits, isScalar, isRawKind, fields}
 use Rattle.pack.specs.Answer.{spanOf}
-use Rattle.tree.specs.Raw.{rawOf}
+use Rattle.tree.specs.Raw.{rawOf, punctRaw, identRaw, literalRaw, subtreeRaw}
 use Rattle.tree.specs.declared.raw.RawPunct.{RawPunct}
 use Rattle.tree.specs.declared.raw.RawIdent.{RawIdent}
 use Rattle.tree.specs.declared.raw.RawLiteral.{RawLiteral}
@@ -161,19 +161,19 @@ module _ (s : Span) (y : Bool) (e : y ≡ spanFits s) where
 -- ---- any tree
 
 module _ (t : RawTree) (y : Bool) where
-  pub fits-punct : (p : RawPunct) → t ≡ Punct p → y ≡ fields (punct (spanOf (p .span)) (p .char) (p .spacing)) → y ≡ fields (rawOf t)
+  pub fits-punct : (p : RawPunct) → t ≡ Punct p → y ≡ fields (punctRaw p) → y ≡ fields (rawOf t)
   unfolding rawOf
   fits-punct p e q = q ∙ rw e
 
-  pub fits-ident : (p : RawIdent) → t ≡ Ident p → y ≡ fields (ident (spanOf (p .span)) (p .symbol) (p .raw)) → y ≡ fields (rawOf t)
+  pub fits-ident : (p : RawIdent) → t ≡ Ident p → y ≡ fields (identRaw p) → y ≡ fields (rawOf t)
   unfolding rawOf
   fits-ident p e q = q ∙ rw e
 
-  pub fits-literal : (p : RawLiteral) → t ≡ Literal p → y ≡ fields (literal (spanOf (p .span)) (p .symbol) (p .kind) (p .«raw_count») (p .«suffix_len»)) → y ≡ fields (rawOf t)
+  pub fits-literal : (p : RawLiteral) → t ≡ Literal p → y ≡ fields (literalRaw p) → y ≡ fields (rawOf t)
   unfolding rawOf
   fits-literal p e q = q ∙ rw e
 
-  pub fits-subtree : (p : RawSubtree) → t ≡ Subtree p → y ≡ fields (subtree (spanOf (p .opening)) (spanOf (p .closing)) (p .len .0) (p .kind)) → y ≡ fields (rawOf t)
+  pub fits-subtree : (p : RawSubtree) → t ≡ Subtree p → y ≡ fields (subtreeRaw p) → y ≡ fields (rawOf t)
   unfolding rawOf
   fits-subtree p e q = q ∙ rw e
 

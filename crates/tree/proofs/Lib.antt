@@ -1,4 +1,6 @@
 pub mod RawAgain
 pub mod FieldsReturns
+pub mod KindsReturns
 pub mod TypesWords
 pub mod WordsReturns
+pub mod WordsTree

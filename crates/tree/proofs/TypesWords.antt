@@ -1,12 +1,11 @@
 -- The list words of the source's tree are those of the tree with indices.
-use Prim.Native.Nat.{ℕ, zero, suc, _+_, _*_, _≤_, _<_}
+use Prim.Native.Nat.{ℕ, zero, suc, _+_, _*_, _%_, _≤_}
 use mathlib.Core.Bool.{Bool, true, false, _&&_, _||_}
-use mathlib.Core.Path.{_≡_, refl, sym, ap, _∙_}
-use mathlib.Core.List.{List, [], _∷_, _++_}
+use mathlib.Core.Path.{_≡_, refl}
+use mathlib.Core.List.{List}
 use native.Mathlib.Omega.{arith}
 use borrow.Author.Tests.{leb-true, eqb-true}
 use lib.Dec.{leb, eqb}
-use lib.ListN.{getD}
 use Rattle.format.specs.Test.{if_then_else_}
 use Rattle.format.specs.Span as format
 use Rattle.format.specs.Tree.{Raw, punct, ident, literal, subtree}
@@ -54,6 +53,14 @@ kind-again (suc (suc (suc (suc (suc (suc (suc (suc (suc zero))))))))) r h e = re
 kind-again (suc (suc (suc (suc (suc (suc (suc (suc (suc (suc zero)))))))))) r h e = no-count 10 r e
 kind-again (suc (suc (suc (suc (suc (suc (suc (suc (suc (suc (suc k))))))))))) r h e = absurd (omega arith)
 
+pub count-255 : (r : ℕ) (y : Bool) → (if y then leb r 255 else eqb r 0) ≡ true → r ≤ 255
+count-255 r true e = leb-true r 255 e
+count-255 r false e = let h = eqb-true r 0 e in omega arith
+
+-- in range, kind, raw count and suffix length do not pass a word
+pub one-word : (k r x : ℕ) → k ≤ 10 → r ≤ 255 → x ≤ 255 → (k + 256 * r + 65536 * x) % 4294967296 ≡ k + 256 * r + 65536 * x
+one-word k r x f g h = omega arith
+
 pub resolved-words : (parts symbols : List ℕ) (t : Raw) → fields t ≡ true → treeWordsOf (resolved parts symbols t) ≡ treeWords parts symbols t
 unfolding treeWordsOf resolved treeWords
 resolved-words parts symbols (punct s c x) e =
@@ -67,7 +74,8 @@ resolved-words parts symbols (literal s i k r x) e =
     let f = and-left (spanFits s && leb k 10 && c) (leb x 255) e in
     let g : c ≡ true = and-right (spanFits s && leb k 10) c f in
     let h : k ≤ 10 = leb-true k 10 (and-right (spanFits s) (leb k 10) (and-left (spanFits s && leb k 10) c f)) in
-    rw (kind-again k r h g)
+    let l : x ≤ 255 = leb-true x 255 (and-right (spanFits s && leb k 10 && c) (leb x 255) e) in
+    rw (kind-again k r h g, one-word k r x h (count-255 r (isRawKind k) g) l)
 resolved-words parts symbols (subtree s t n d) e =
     let h : d ≤ 3 = leb-true d 3 (and-right (spanFits s && spanFits t) (leb d 3) e) in
     rw (delimiter-again d h)

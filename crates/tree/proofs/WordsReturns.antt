@@ -1,14 +1,13 @@
 -- One law for each return of the functions of src/words.rt, with premises as the code's tests and calls give them.
 use Prim.Native.Nat.{ℕ, _+_, _*_, _/_, _%_, _<_, _≤_}
-use mathlib.Core.Bool.{Bool, true, false, not, _&&_, _||_}
-use mathlib.Core.Path.{_≡_, refl, sym, ap, _∙_}
+use mathlib.Core.Bool.{Bool, true, false, not}
+use mathlib.Core.Path.{_≡_, sym, ap, _∙_}
 use mathlib.Core.List.{List}
 use native.Mathlib.Omega.{arith}
 use borrow.Author.Tests.{le-leb, lt-leb, eq-eqb, ne-eqb, not-true, not-false}
 use lib.Dec.{leb, eqb}
-use lib.ListN.{length, getD, List·getD-eq-default}
-use Rattle.format.specs.Test.{if_then_else_}
-use Rattle.format.specs.Tree.{Raw, punct, ident, literal, subtree}
+use lib.ListN.{length, List·getD-eq-default}
+use Rattle.format.specs.Tree.{Raw}
 use Rattle.format.specs.Fields.{fields}
 use Rattle.format.specs.WordList.{wordOf, rawFrom, noClose, wordFields}
 use Rattle.pack.specs.declared.span.PackedSpan.{PackedSpan}
@@ -138,4 +137,4 @@ module _ (l : List ℕ) (n w₀ : ℕ) (e₀ : w₀ ≡ wordOf l n 0) where
           let z : eqb (wordOf l n 0) 3 ≡ false = ne-eqb _ _ (λ j. i (e₀ ∙ j)) in
           q ∙ simp (low, a, z)
 
-pub ruleset words-cases = (raw-words-cases, close-cases, sort-2, tree-fields-2, subtree-words, leaf-words)
+pub ruleset words-cases = (sort-2, tree-fields-2, subtree-words, leaf-words)

@@ -1,3 +1,4 @@
 pub mod Raw
 pub mod Types
+pub mod Words
 pub mod Refusal

@@ -5,6 +5,10 @@ use Rattle.format.specs.Reader.{Reply, got, bad}
 use Rattle.format.specs.Tree.{Raw, punct, ident, literal, subtree}
 use Rattle.format.specs.Fields.{fields}
 use Rattle.pack.specs.Answer.{spanOf, packedOf}
+use Rattle.tree.specs.declared.raw.RawPunct.{RawPunct}
+use Rattle.tree.specs.declared.raw.RawIdent.{RawIdent}
+use Rattle.tree.specs.declared.raw.RawLiteral.{RawLiteral}
+use Rattle.tree.specs.declared.raw.RawSubtree.{RawSubtree}
 use Rattle.tree.specs.declared.raw.RawTree.{RawTree}
 use Rattle.tree.specs.declared.raw.RawTree.the-variants.{Punct, Ident, Literal, Subtree}
 use Rattle.tree.specs.declared.raw.RawRead.{RawRead}
@@ -16,11 +20,24 @@ rawTree (ident s i r) = Ident (record { span = packedOf s; symbol = i; raw = r }
 rawTree (literal s i k r x) = Literal (record { span = packedOf s; symbol = i; kind = k; «raw_count» = r; «suffix_len» = x })
 rawTree (subtree s t n d) = Subtree (record { opening = packedOf s; closing = packedOf t; len = record { 0 = n }; kind = d })
 
+-- the definitions' tree of each sort
+abbrev pub punctRaw : RawPunct → Raw
+punctRaw p = punct (spanOf (p .span)) (p .char) (p .spacing)
+
+abbrev pub identRaw : RawIdent → Raw
+identRaw p = ident (spanOf (p .span)) (p .symbol) (p .raw)
+
+abbrev pub literalRaw : RawLiteral → Raw
+literalRaw p = literal (spanOf (p .span)) (p .symbol) (p .kind) (p .«raw_count») (p .«suffix_len»)
+
+abbrev pub subtreeRaw : RawSubtree → Raw
+subtreeRaw p = subtree (spanOf (p .opening)) (spanOf (p .closing)) (p .len .0) (p .kind)
+
 unfoldable pub rawOf : RawTree → Raw
-rawOf (Punct p) = punct (spanOf (p .span)) (p .char) (p .spacing)
-rawOf (Ident p) = ident (spanOf (p .span)) (p .symbol) (p .raw)
-rawOf (Literal p) = literal (spanOf (p .span)) (p .symbol) (p .kind) (p .«raw_count») (p .«suffix_len»)
-rawOf (Subtree p) = subtree (spanOf (p .opening)) (spanOf (p .closing)) (p .len .0) (p .kind)
+rawOf (Punct p) = punctRaw p
+rawOf (Ident p) = identRaw p
+rawOf (Literal p) = literalRaw p
+rawOf (Subtree p) = subtreeRaw p
 
 -- what reading one tree answers
 unfoldable pub rawAnswer : Reply Raw → RawRead

@@ -1,5 +1,5 @@
 -- The source's tree of a tree with indices, by the entries of the tables, and the list words of such a tree.
-use Prim.Native.Nat.{ℕ, _+_, _*_}
+use Prim.Native.Nat.{ℕ, _+_, _*_, _%_}
 use mathlib.Core.List.{List, [], _∷_, _++_}
 use lib.ListN.{getD}
 use lib.Dec.{eqb}
@@ -112,8 +112,9 @@ spanList s = s .file ∷ s .«ast_id» ∷ s .context ∷ s .start ∷ s .len �
 abbrev pub zeros : List ℕ
 zeros = 0 ∷ 0 ∷ 0 ∷ 0 ∷ 0 ∷ []
 
+-- a word is a u32: a raw count or a suffix length that row 2 refuses may pass it, and what is past it falls away
 unfoldable pub treeWordsOf : TokenTree → List ℕ
 treeWordsOf (trees.Leaf (leaves.Punct p)) = 0 ∷ p .char ∷ spacingWord (p .spacing) ∷ spanList (p .span) ++ zeros
 treeWordsOf (trees.Leaf (leaves.Ident p)) = 1 ∷ p .sym ∷ isRawWord (p .«is_raw») ∷ spanList (p .span) ++ zeros
-treeWordsOf (trees.Leaf (leaves.Literal p)) = 2 ∷ p .«text_and_suffix» ∷ (litKindWord (p .kind) + 65536 * p .«suffix_len») ∷ spanList (p .span) ++ zeros
+treeWordsOf (trees.Leaf (leaves.Literal p)) = 2 ∷ p .«text_and_suffix» ∷ ((litKindWord (p .kind) + 65536 * p .«suffix_len») % 4294967296) ∷ spanList (p .span) ++ zeros
 treeWordsOf (trees.Subtree p) = 3 ∷ p .len .0 ∷ delimiterWord (p .kind) ∷ spanList (p .opening) ++ spanList (p .closing)

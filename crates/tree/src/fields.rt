@@ -8,10 +8,9 @@ use pack::span::PackedSpan;
 ghost use mathlib.Core.Path.{_≡_};
 ghost use lib.Dec.{leb, eqb};
 ghost use Rattle.format.specs.Test.{if_then_else_};
-ghost use Rattle.format.specs.Tree.{punct, ident, literal, subtree};
 ghost use Rattle.format.specs.Fields.{spanFits, isScalar, isRawKind, fields};
 ghost use Rattle.pack.specs.Answer.{spanOf};
-ghost use Rattle.tree.specs.Raw.{rawOf};
+ghost use Rattle.tree.specs.Raw.{rawOf, punctRaw, identRaw, literalRaw, subtreeRaw};
 
 fn span_fits(span: PackedSpan) -> bool
     ensures { λ r. ⌜ r ≡ spanFits (spanOf span) ⌝ }
@@ -51,7 +50,7 @@ pub fn is_raw_kind(kind: u32) -> bool
 }
 
 fn punct_fits(p: RawPunct) -> bool
-    ensures { λ r. ⌜ r ≡ fields (punct (spanOf (p .span)) (p .char) (p .spacing)) ⌝ }
+    ensures { λ r. ⌜ r ≡ fields (punctRaw p) ⌝ }
 {
     let span = p.span;
     if !span_fits(span) {
@@ -67,7 +66,7 @@ fn punct_fits(p: RawPunct) -> bool
 }
 
 fn ident_fits(p: RawIdent) -> bool
-    ensures { λ r. ⌜ r ≡ fields (ident (spanOf (p .span)) (p .symbol) (p .raw)) ⌝ }
+    ensures { λ r. ⌜ r ≡ fields (identRaw p) ⌝ }
 {
     let span = p.span;
     if !span_fits(span) {
@@ -101,7 +100,7 @@ fn raw_count_fits(kind: u32, raw_count: u32) -> bool
 }
 
 fn literal_fits(p: RawLiteral) -> bool
-    ensures { λ r. ⌜ r ≡ fields (literal (spanOf (p .span)) (p .symbol) (p .kind) (p .«raw_count») (p .«suffix_len»)) ⌝ }
+    ensures { λ r. ⌜ r ≡ fields (literalRaw p) ⌝ }
 {
     let span = p.span;
     if !span_fits(span) {
@@ -120,7 +119,7 @@ fn literal_fits(p: RawLiteral) -> bool
 }
 
 pub fn subtree_fits(p: RawSubtree) -> bool
-    ensures { λ r. ⌜ r ≡ fields (subtree (spanOf (p .opening)) (spanOf (p .closing)) (p .len .0) (p .kind)) ⌝ }
+    ensures { λ r. ⌜ r ≡ fields (subtreeRaw p) ⌝ }
 {
     let opening = p.opening;
     let closing = p.closing;

@@ -1,5 +1,6 @@
 // One tree as a value: its types, row 2 of its fields, and its list words.
 pub mod fields;
+pub mod kinds;
 pub mod raw;
 pub mod refusal;
 pub mod types;

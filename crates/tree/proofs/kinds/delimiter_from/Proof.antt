@@ -1,7 +1,7 @@
 use borrow.Author.Needs.{needs}
-use Rattle.decode.proofs.DecodeReturns.{number-cases}
-use Rattle.decode.proofs.decode.delimiter_from.Statement.{statement}
-use Rattle.decode.proofs.decode.delimiter_from.Tie as tie
+use Rattle.tree.proofs.KindsReturns.{number-cases}
+use Rattle.tree.proofs.kinds.delimiter_from.Statement.{statement}
+use Rattle.tree.proofs.kinds.delimiter_from.Tie as tie
 
 returns : tie.Need-returns
 returns c = search (needs, number-cases)

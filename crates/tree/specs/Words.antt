@@ -1,0 +1,59 @@
+-- One tree of a list by its own words: its entries are the words themselves, so no tables are asked for.
+use Prim.Native.Nat.{ℕ, _+_, _/_, _%_}
+use mathlib.Core.Bool.{Bool, _&&_}
+use lib.Dec.{leb, eqb}
+use Rattle.format.specs.Test.{if_then_else_}
+use Rattle.format.specs.Span as format
+use Rattle.format.specs.Fields.{spanFits, isScalar}
+use Rattle.format.specs.WordList.{wordFields}
+use Rattle.tree.specs.Types.{spacingOf, isRawOf, delimiterOf, litKindOf}
+use Rattle.tree.specs.declared.types.Span.{Span}
+use Rattle.tree.specs.declared.types.LitKind.{LitKind}
+use Rattle.tree.specs.declared.types.LitKind.the-variants.{StrRaw, ByteStrRaw, CStrRaw, Byte, Char, Integer, Float, Str, ByteStr, CStr, Err}
+use Rattle.tree.specs.declared.types.Leaf.the-variants as leaves
+use Rattle.tree.specs.declared.types.TokenTree.{TokenTree}
+use Rattle.tree.specs.declared.types.TokenTree.the-variants as trees
+use Rattle.tree.specs.declared.words.WordsRead.{WordsRead}
+use Rattle.tree.specs.declared.words.WordsRead.the-variants.{Got, Bad}
+
+-- "Words 3 to 7: the span, or the opening one: file, ast id, context, start, length. Words 8 to 12: the closing span"
+abbrev pub spanFrom : (ℕ → ℕ) → ℕ → Span
+spanFrom w j = record { file = w j; «ast_id» = w (j + 1); context = w (j + 2); start = w (j + 3); len = w (j + 4) }
+
+-- "Word 0: 0 punct, 1 ident, 2 literal, 3 subtree. Words 1, 2: punct character, spacing; ident symbol, raw;
+-- literal symbol, then kind + 256 × raw count + 65,536 × suffix length; subtree descendant count, delimiter kind"
+unfoldable pub treeFrom : (ℕ → ℕ) → TokenTree
+treeFrom w =
+    if eqb (w 0) 0 then trees.Leaf (leaves.Punct (record { char = w 1; spacing = spacingOf (w 2); span = spanFrom w 3 })) else
+    (if eqb (w 0) 1 then trees.Leaf (leaves.Ident (record { sym = w 1; span = spanFrom w 3; «is_raw» = isRawOf (w 2) })) else
+    (if eqb (w 0) 2 then
+    trees.Leaf (leaves.Literal (record { «text_and_suffix» = w 1; span = spanFrom w 3; kind = litKindOf (w 2 % 256) (w 2 / 256 % 256); «suffix_len» = w 2 / 65536 })) else
+    trees.Subtree (record { opening = spanFrom w 3; closing = spanFrom w 8; len = record { 0 = w 1 }; kind = delimiterOf (w 2) })))
+
+-- row 2 first
+unfoldable pub wordsAnswer : (ℕ → ℕ) → WordsRead
+wordsAnswer w = if wordFields w then Got (treeFrom w) else Bad 2
+
+-- ---- row 2 of the source's tree: what its types leave open
+
+unfoldable pub rawCount : LitKind → ℕ
+rawCount Byte = 0
+rawCount Char = 0
+rawCount Integer = 0
+rawCount Float = 0
+rawCount Str = 0
+rawCount (StrRaw r) = r
+rawCount ByteStr = 0
+rawCount (ByteStrRaw r) = r
+rawCount CStr = 0
+rawCount (CStrRaw r) = r
+rawCount Err = 0
+
+abbrev pub endFits : Span → Bool
+endFits s = spanFits (record { index = 0; start = s .start; len = s .len })
+
+unfoldable pub tokenFits : TokenTree → Bool
+tokenFits (trees.Leaf (leaves.Punct p)) = endFits (p .span) && isScalar (p .char)
+tokenFits (trees.Leaf (leaves.Ident p)) = endFits (p .span)
+tokenFits (trees.Leaf (leaves.Literal p)) = endFits (p .span) && leb (rawCount (p .kind)) 255 && leb (p .«suffix_len») 255
+tokenFits (trees.Subtree p) = endFits (p .opening) && endFits (p .closing)
