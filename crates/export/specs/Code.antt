@@ -2,7 +2,7 @@
 use Prim.Native.Nat.{ℕ, _+_}
 use mathlib.Core.Path.{_≡_}
 use mathlib.Core.Bool.{Bool}
-use mathlib.Core.List.{List, [], _∷_}
+use mathlib.Core.List.{List, [], _∷_, _++_}
 use lib.Dec.{ltb}
 use lib.ListN.{length}
 use Rattle.format.specs.Test.{if_then_else_}
@@ -23,6 +23,10 @@ use Rattle.pack.specs.declared.span.SpanRead.the-variants as spans
 use Rattle.pack.specs.declared.symbol.SymbolAt.{SymbolAt}
 use Rattle.pack.specs.declared.symbol.SymbolRead.{SymbolRead}
 use Rattle.pack.specs.declared.symbol.SymbolRead.the-variants as symbols
+use Rattle.tree.specs.Types.{treeWordsOf}
+use Rattle.decode.specs.Decode.{treeAnswer, decodedAt}
+use Rattle.decode.specs.declared.decode.TreeRead.{TreeRead}
+use Rattle.decode.specs.declared.decode.TreeRead.the-variants as trees
 use Rattle.encode.specs.Encode.{packTree}
 
 -- a refusal's number, out of the way of every length and place
@@ -90,3 +94,16 @@ pub record TreeStored (b : List ℕ) (at : ℕ) (w : List ℕ) (o c y kids : ℕ
 pub record RootStored (b : List ℕ) (at : ℕ) (s t : Span) (n d kids : ℕ) (r : ℕ) (b′ : List ℕ) : Type 0 where
   pub reply : r ≡ treeReply b at 0 (subtree s t n d) kids
   pub contents : b′ ≡ treeLeft b at 0 (subtree s t n d) kids
+
+-- tree n as it is read: 13 list words and the children bytes
+abbrev pub treeCode : TreeRead → ℕ
+treeCode (trees.Got y) = y .next
+treeCode (trees.Refused k) = refusalCode k
+
+abbrev pub foundWords : List ℕ → TreeRead → List ℕ
+foundWords w (trees.Got y) = put w 0 (treeWordsOf (y .tree) ++ y .children .0 ∷ [])
+foundWords w (trees.Refused k) = w
+
+pub record TreeFound (b parts symbols : List ℕ) (n at : ℕ) (w : List ℕ) (r : ℕ) (w′ : List ℕ) : Type 0 where
+  pub reply : r ≡ (if ltb (length w) 14 then refusalCode 6 else treeCode (treeAnswer (decodedAt b parts symbols n at)))
+  pub contents : w′ ≡ (if ltb (length w) 14 then w else foundWords w (treeAnswer (decodedAt b parts symbols n at)))

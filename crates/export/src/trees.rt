@@ -1,4 +1,6 @@
 // One tree, by its list words and its indices.
+use decode::decode::TreeRead;
+use decode::decode::decode;
 use encode::encode::encode;
 use encode::encode::encode_top_subtree;
 use pack::span::PackedSpan;
@@ -6,10 +8,15 @@ use tree::raw::ChildrenBytes;
 use tree::raw::Descendants;
 use tree::raw::RawSubtree;
 use tree::words::raw_from_words;
+use tree::words::tree_words;
 use tree::words::word_fields;
 use crate::packing::code_of;
 ghost use mathlib.Core.Path.{_≡_};
-ghost use Rattle.export.specs.Code.{TreeStored, RootStored};
+ghost use mathlib.Core.List.{_∷_, [], _++_};
+ghost use Prim.Native.Nat.{_≤_};
+ghost use lib.ListN.{length};
+ghost use Rattle.format.specs.Word.{put};
+ghost use Rattle.export.specs.Code.{refusalCode, TreeStored, RootStored, TreeFound};
 
 // The tree of the first 13 list words, with the indices of its open and close part and of its symbol.
 #[no_mangle]
@@ -67,4 +74,56 @@ pub extern "C" fn tt_encode_top_subtree(
     };
     let p = encode_top_subtree(out, at, root, ChildrenBytes(children));
     code_of(p)
+}
+
+fn store_words(words: &mut [u32], from: [u32; 13])
+    requires { ⌜ 13 ≤ length (now words) ⌝ }
+    ensures { λ _. ⌜ now (words .exit) ≡ put (now (words .entry)) 0 from ⌝ }
+{
+    let mut i: usize = 0;
+    while i < 13 {
+        words[i] = from[i];
+        i = i + 1;
+    }
+}
+
+fn store_tree(words: &mut [u32], from: [u32; 13], children: u32)
+    requires { ⌜ 14 ≤ length (now words) ⌝ }
+    ensures { λ _. ⌜ now (words .exit) ≡ put (now (words .entry)) 0 (from ++ children ∷ []) ⌝ }
+{
+    store_words(words, from);
+    words[13] = children;
+}
+
+fn refusal_code(k: u32) -> u64
+    ensures { λ r. ⌜ r ≡ refusalCode k ⌝ }
+{
+    9223372036854775808 + (k as u64)
+}
+
+// The 13 list words of tree n and its children bytes go to 14 words; the answer is the place behind the tree.
+#[no_mangle]
+pub extern "C" fn tt_decode_tree(
+    b: &[u8],
+    parts: &[u32],
+    symbols: &[u32],
+    n: u32,
+    at: usize,
+    words: &mut [u32],
+) -> u64
+    ensures { λ r. ⌜ TreeFound (now (b .entry)) (now (parts .entry)) (now (symbols .entry)) n at (now (words .entry)) r (now (words .exit)) ⌝ }
+{
+    if words.len() < 14 {
+        return 9223372036854775814;
+    }
+    let read = decode(b, parts, symbols, n, at);
+    match read {
+        TreeRead::Refused(k) => refusal_code(k),
+        TreeRead::Got(y) => {
+            let tree = y.tree;
+            let children = y.children;
+            store_tree(words, tree_words(tree), children.0);
+            y.next as u64
+        }
+    }
 }
