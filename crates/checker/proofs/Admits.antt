@@ -1,14 +1,14 @@
 -- What the answers of `check_buffer` and `check` mean: Passed is given to the admitted buffers and to no other, and a refusal where its row holds first.
-use Prim.Native.Nat.{ℕ, _/_, _%_, _<_}
+use Prim.Native.Nat.{ℕ, _/_, _%_}
 use mathlib.Core.Path.{_≡_, refl, sym, ap, _∙_}
 use mathlib.Core.List.{List}
 use native.Mathlib.Omega.{arith}
 use lib.ListN.{length}
 use Rattle.format.specs.Verdict.{Verdict, passed, refused}
-use Rattle.format.specs.Check.{check, Admitted, listing}
+use Rattle.format.specs.Check.{check, Admitted}
 use Rattle.format.specs.Rule.{WalkRule}
 use Rattle.format.specs.Buffer.{wordShape, ownReader, bufferCheck, rawShape, sizeReader}
-use Rattle.format.specs.WordList.{listCount, thirteen, wordOf}
+use Rattle.format.specs.WordList.{listCount}
 use Rattle.format.specs.Writer.{listVerdict, packed}
 use Rattle.format.proofs.RawReader.{own-check}
 use Rattle.format.proofs.CheckRefusal as rows

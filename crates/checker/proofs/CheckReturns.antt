@@ -1,5 +1,5 @@
 -- One law for each return, call and turn of a loop of the check, over any reader.
-use Prim.Native.Nat.{ℕ, _+_, _*_, _-_, _/_, _%_, _≤_, _<_}
+use Prim.Native.Nat.{ℕ, _+_, _-_, _/_, _%_, _≤_, _<_}
 use mathlib.Core.Bool.{Bool, true, false, not, _&&_}
 use mathlib.Core.Path.{_≡_, refl, sym, ap, _∙_, subst}
 use mathlib.Core.List.{List}
@@ -7,7 +7,7 @@ use native.Mathlib.Omega.{arith}
 use borrow.Author.Tests.{lt-ltb, le-ltb, le-leb, lt-leb, ne-eqb, leb-true, not-true, not-false}
 use lib.Dec.{leb}
 use lib.ListN.{length}
-use Rattle.format.specs.Verdict.{Verdict, passed, refused, each}
+use Rattle.format.specs.Verdict.{Verdict, refused}
 use Rattle.format.specs.Reader.{Shape, Reader}
 use Rattle.format.specs.Nest.{nest, run}
 use Rattle.format.specs.Check.{placeOf, reading, listing, readRule, check}

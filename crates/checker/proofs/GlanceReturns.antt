@@ -1,9 +1,9 @@
 -- One law for each return of the functions that look at a tree, and what a glance says of the tree.
 use Prim.Native.Nat.{ℕ}
-use mathlib.Core.Path.{_≡_, refl, sym, ap, _∙_}
+use mathlib.Core.Path.{_≡_, sym, ap, _∙_}
 use mathlib.Core.List.{List}
 use native.Mathlib.Omega.{arith}
-use Rattle.format.specs.Reader.{Reply, got, bad}
+use Rattle.format.specs.Reader.{Reply, got}
 use Rattle.format.specs.Tree.{Raw, treeAt}
 use Rattle.format.specs.Tables.{countRules}
 use Rattle.format.specs.Buffer.{rawShape, judge}
@@ -18,7 +18,7 @@ use Rattle.tree.specs.declared.raw.RawTree.the-variants as raws
 use Rattle.tree.specs.declared.raw.RawRead.{RawRead}
 use Rattle.tree.specs.declared.raw.RawRead.the-variants as reads
 use Rattle.decode.proofs.ReadUse.{reply-got, reply-bad}
-use Rattle.checker.specs.Glance.{glance, readerOf, glanceAt}
+use Rattle.checker.specs.Glance.{glance, glanceAt}
 use Rattle.checker.specs.declared.glance.Sizes.{Sizes}
 use Rattle.checker.specs.declared.glance.Opening.{Opening}
 use Rattle.checker.specs.declared.glance.Glance.{Glance}

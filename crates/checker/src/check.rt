@@ -6,10 +6,9 @@ use crate::glance::glance_at;
 use tree::raw::place;
 use tree::refusal::Refusal;
 use tree::refusal::Verdict;
-ghost use Prim.Native.Nat.{_+_, _*_, _/_, _%_, _<_, _≤_};
+ghost use Prim.Native.Nat.{_+_, _/_, _%_, _<_, _≤_};
 ghost use mathlib.Core.Path.{_≡_};
 ghost use mathlib.Core.Bool.{true};
-ghost use lib.ListN.{length};
 ghost use Rattle.format.specs.Verdict as verdict;
 ghost use Rattle.format.specs.Check.{placeOf, check as checked};
 ghost use Rattle.format.specs.Buffer.{rawShape, sizeReader, bufferCheck};
@@ -254,7 +253,8 @@ pub fn check(b: &[u8], trees: u32, parts: usize, symbols: usize) -> Verdict
 
 // The check of a buffer with its part words and symbols.
 pub fn check_buffer(b: &[u8], trees: u32, parts: &[u32], symbols: &[u32]) -> Verdict
-    ensures { λ r. ⌜ r ≡ verdictAnswer (bufferCheck (now (b .entry)) trees (now (parts .entry)) (now (symbols .entry))) ⌝ }
+    ensures { λ r. ⌜ r ≡ verdictAnswer
+        (bufferCheck (now (b .entry)) trees (now (parts .entry)) (now (symbols .entry))) ⌝ }
 {
     if parts.len() % 3 != 0 {
         return refused(1, 0);

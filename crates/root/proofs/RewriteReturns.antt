@@ -6,18 +6,15 @@ use mathlib.Core.List.{List, [], _∷_}
 use native.Mathlib.Omega.{arith}
 use native.Mathlib.Numerals.{add-one}
 use borrow.Author.Tests.{le-leb, lt-leb, leb-true, not-true, not-false}
-use lib.Dec.{leb}
 use lib.ListN.{length, set}
 use lib.Seq.{sets-eq}
 use Rattle.format.specs.Verdict.{Verdict, passed, refused, rule}
 use Rattle.format.specs.Word.{byteAt, put}
 use Rattle.format.specs.Span.{Span}
 use Rattle.format.specs.Write.{heavyBytes}
-use Rattle.format.specs.Tables.{partCount}
 use Rattle.format.specs.Buffer.{bufferCheck}
-use Rattle.format.specs.Root.{WordSpan, rangeFits, indexed, newKind, newSpans, newParts, kindVerdict, kindAfter, spansVerdict, spansAfter, partsAfter}
+use Rattle.format.specs.Root.{rangeFits, indexed, newKind, newSpans, newParts, spansVerdict}
 use Rattle.format.proofs.Each.{both, rule-passed, and-left, and-right}
-use Rattle.format.proofs.Put.{put-length}
 use Rattle.format.proofs.NewRoot.{root-of, admitted, sizes}
 use Rattle.format.proofs.RootKind.{kind-unchecked, kind-high, kind-fits, kind-refused, kind-stored}
 use Rattle.format.proofs.RootSpans.{spans-unchecked, spans-high, spans-fit, spans-refused, spans-stored}

@@ -39,7 +39,8 @@ pub fn set_top_subtree_delimiter_kind(
     symbols: &[u32],
     kind: u32,
 ) -> Verdict
-    ensures { λ r. ⌜ KindSet (now (b .entry)) trees (now (parts .entry)) (now (symbols .entry)) kind r (now (b .exit)) ⌝ }
+    ensures { λ r. ⌜ KindSet (now (b .entry)) trees (now (parts .entry)) (now (symbols .entry)) kind
+        r (now (b .exit)) ⌝ }
 {
     let verdict = check_buffer(b, trees, parts, symbols);
     match verdict {
@@ -90,7 +91,8 @@ fn put_spans(b: &mut [u8], parts: usize, opening: Span, closing: Span)
 
 fn put_part(parts: &mut [u32], at: usize, span: Span)
     requires { ⌜ at + 3 ≤ length (now parts) ⌝ }
-    ensures { λ _. ⌜ now (parts .exit) ≡ put (now (parts .entry)) at (span .file ∷ span .«ast_id» ∷ span .context ∷ []) ⌝ }
+    ensures { λ _. ⌜ now (parts .exit) ≡
+        put (now (parts .entry)) at (span .file ∷ span .«ast_id» ∷ span .context ∷ []) ⌝ }
 {
     parts[at] = span.file;
     parts[at + 1] = span.ast_id;
@@ -115,7 +117,8 @@ fn spans_verdict(
     opening: Span,
     closing: Span,
 ) -> Verdict
-    ensures { λ r. ⌜ SpansJudged (now (b .entry)) trees (now (parts .entry)) (now (symbols .entry)) opening closing r ⌝ }
+    ensures { λ r. ⌜ SpansJudged (now (b .entry)) trees (now (parts .entry)) (now (symbols .entry)) opening closing
+        r ⌝ }
 {
     let verdict = check_buffer(b, trees, parts, symbols);
     match verdict {
@@ -140,7 +143,8 @@ pub fn set_top_subtree_delimiter_span(
     opening: Span,
     closing: Span,
 ) -> Verdict
-    ensures { λ r. ⌜ SpansSet (now (b .entry)) trees (now (parts .entry)) (now (symbols .entry)) opening closing r (now (b .exit)) (now (parts .exit)) ⌝ }
+    ensures { λ r. ⌜ SpansSet (now (b .entry)) trees (now (parts .entry)) (now (symbols .entry)) opening closing
+        r (now (b .exit)) (now (parts .exit)) ⌝ }
 {
     let verdict = spans_verdict(b, trees, parts, symbols, opening, closing);
     match verdict {

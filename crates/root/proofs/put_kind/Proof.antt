@@ -2,10 +2,6 @@ use borrow.Author.Needs.{needs}
 use Rattle.root.proofs.RewriteReturns.{put-cases}
 use Rattle.root.proofs.put_kind.Statement.{statement}
 use Rattle.root.proofs.put_kind.Tie as tie
-use Rattle.root.proofs.put_kind.Reads as reads
-use Rattle.root.proofs.put_kind.Lts as lts
-use Rattle.pack.proofs.unchecked.byte_at.Reads as byte-at-reads
-use Rattle.pack.proofs.unchecked.put_byte.Reads as put-byte-reads
 
 byte-at-requires : tie.Need-byte-at-requires
 byte-at-requires c κs = search (needs, put-cases)

@@ -4,8 +4,6 @@ use borrow.Author.Needs.{needs}
 use Rattle.root.proofs.RewriteReturns.{put-cases}
 use Rattle.root.proofs.put_part.Statement.{statement}
 use Rattle.root.proofs.put_part.Tie as tie
-use Rattle.root.proofs.put_part.Reads as reads
-use Rattle.root.proofs.put_part.Lts as lts
 
 mul-parts : tie.Need-mul-parts
 mul-parts c = search (needs, put-cases)

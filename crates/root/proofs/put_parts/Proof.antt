@@ -2,9 +2,6 @@ use borrow.Author.Needs.{needs}
 use Rattle.root.proofs.RewriteReturns.{put-cases}
 use Rattle.root.proofs.put_parts.Statement.{statement}
 use Rattle.root.proofs.put_parts.Tie as tie
-use Rattle.root.proofs.put_parts.Reads as reads
-use Rattle.root.proofs.put_parts.Lts as lts
-use Rattle.root.proofs.put_part.Reads as put-part-reads
 
 sub-at : tie.Need-sub-at
 sub-at c = search (needs, put-cases)

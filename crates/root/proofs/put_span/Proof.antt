@@ -2,9 +2,6 @@ use borrow.Author.Needs.{needs}
 use Rattle.root.proofs.RewriteReturns.{put-cases}
 use Rattle.root.proofs.put_span.Statement.{statement}
 use Rattle.root.proofs.put_span.Tie as tie
-use Rattle.root.proofs.put_span.Reads as reads
-use Rattle.root.proofs.put_span.Lts as lts
-use Rattle.pack.proofs.span.encode_span_no_map.Reads as encode-span-no-map-reads
 
 encode-span-no-map-requires : tie.Need-encode-span-no-map-requires
 encode-span-no-map-requires c κs = search (needs, put-cases)

@@ -2,9 +2,6 @@ use borrow.Author.Needs.{needs}
 use Rattle.root.proofs.RewriteReturns.{put-cases}
 use Rattle.root.proofs.put_spans.Statement.{statement}
 use Rattle.root.proofs.put_spans.Tie as tie
-use Rattle.root.proofs.put_spans.Reads as reads
-use Rattle.root.proofs.put_spans.Lts as lts
-use Rattle.root.proofs.put_span.Reads as put-span-reads
 
 sub-put-span : tie.Need-sub-put-span
 sub-put-span c = search (needs, put-cases)

@@ -2,8 +2,6 @@ use borrow.Author.Needs.{needs}
 use Rattle.root.proofs.RewriteReturns.{range-cases}
 use Rattle.root.proofs.range_fits.Statement.{statement}
 use Rattle.root.proofs.range_fits.Tie as tie
-use Rattle.root.proofs.range_fits.Reads as reads
-use Rattle.root.proofs.range_fits.Lts as lts
 
 sub-if1 : tie.Need-sub-if1
 sub-if1 c = search (needs, range-cases)

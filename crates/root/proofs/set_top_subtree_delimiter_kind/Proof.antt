@@ -2,11 +2,6 @@ use borrow.Author.Needs.{needs}
 use Rattle.root.proofs.RewriteReturns.{kind-cases}
 use Rattle.root.proofs.set_top_subtree_delimiter_kind.Statement.{statement}
 use Rattle.root.proofs.set_top_subtree_delimiter_kind.Tie as tie
-use Rattle.root.proofs.set_top_subtree_delimiter_kind.Reads as reads
-use Rattle.root.proofs.set_top_subtree_delimiter_kind.Lts as lts
-use Rattle.checker.proofs.check.check_buffer.Reads as check-buffer-reads
-use Rattle.checker.proofs.check.refused.Reads as refused-reads
-use Rattle.root.proofs.put_kind.Reads as put-kind-reads
 
 check-buffer-requires : tie.Need-check-buffer-requires
 check-buffer-requires c κs = search (needs, kind-cases)

@@ -2,11 +2,6 @@ use borrow.Author.Needs.{needs}
 use Rattle.root.proofs.RewriteReturns.{set-cases}
 use Rattle.root.proofs.set_top_subtree_delimiter_span.Statement.{statement}
 use Rattle.root.proofs.set_top_subtree_delimiter_span.Tie as tie
-use Rattle.root.proofs.set_top_subtree_delimiter_span.Reads as reads
-use Rattle.root.proofs.set_top_subtree_delimiter_span.Lts as lts
-use Rattle.root.proofs.put_parts.Reads as put-parts-reads
-use Rattle.root.proofs.put_spans.Reads as put-spans-reads
-use Rattle.root.proofs.spans_verdict.Reads as spans-verdict-reads
 
 spans-verdict-requires : tie.Need-spans-verdict-requires
 spans-verdict-requires c κs = search (needs, set-cases)

@@ -2,11 +2,6 @@ use borrow.Author.Needs.{needs}
 use Rattle.root.proofs.RewriteReturns.{spans-cases}
 use Rattle.root.proofs.spans_verdict.Statement.{statement}
 use Rattle.root.proofs.spans_verdict.Tie as tie
-use Rattle.root.proofs.spans_verdict.Reads as reads
-use Rattle.root.proofs.spans_verdict.Lts as lts
-use Rattle.checker.proofs.check.check_buffer.Reads as check-buffer-reads
-use Rattle.checker.proofs.check.refused.Reads as refused-reads
-use Rattle.root.proofs.range_fits.Reads as range-fits-reads
 
 check-buffer-requires : tie.Need-check-buffer-requires
 check-buffer-requires c κs = search (needs, spans-cases)

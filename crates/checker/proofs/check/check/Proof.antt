@@ -2,12 +2,6 @@ use borrow.Author.Needs.{needs}
 use Rattle.checker.proofs.CheckReturns.{check-cases}
 use Rattle.checker.proofs.check.check.Statement.{statement}
 use Rattle.checker.proofs.check.check.Tie as tie
-use Rattle.checker.proofs.check.check.Reads as reads
-use Rattle.checker.proofs.check.check.Lts as lts
-use Rattle.checker.proofs.check.check_root.Reads as check-root-reads
-use Rattle.checker.proofs.check.finish.Reads as finish-reads
-use Rattle.checker.proofs.check.is_sized.Reads as is-sized-reads
-use Rattle.checker.proofs.check.refused.Reads as refused-reads
 
 is-sized-requires : tie.Need-is-sized-requires
 is-sized-requires c κs = search (needs, check-cases)

@@ -2,10 +2,6 @@ use borrow.Author.Needs.{needs}
 use Rattle.checker.proofs.CheckReturns.{buffer-cases}
 use Rattle.checker.proofs.check.check_buffer.Statement.{statement}
 use Rattle.checker.proofs.check.check_buffer.Tie as tie
-use Rattle.checker.proofs.check.check_buffer.Reads as reads
-use Rattle.checker.proofs.check.check_buffer.Lts as lts
-use Rattle.checker.proofs.check.check.Reads as check-reads
-use Rattle.checker.proofs.check.refused.Reads as refused-reads
 
 refused-requires : tie.Need-refused-requires
 refused-requires c κs = search (needs, buffer-cases)

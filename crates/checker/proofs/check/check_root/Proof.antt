@@ -2,10 +2,6 @@ use borrow.Author.Needs.{needs}
 use Rattle.checker.proofs.CheckReturns.{root-cases}
 use Rattle.checker.proofs.check.check_root.Statement.{statement}
 use Rattle.checker.proofs.check.check_root.Tie as tie
-use Rattle.checker.proofs.check.check_root.Reads as reads
-use Rattle.checker.proofs.check.check_root.Lts as lts
-use Rattle.checker.proofs.check.check_subtree.Reads as check-subtree-reads
-use Rattle.checker.proofs.glance.glance_at.Reads as glance-at-reads
 
 glance-at-requires : tie.Need-glance-at-requires
 glance-at-requires c κs = search (needs, root-cases)

@@ -2,8 +2,6 @@ use borrow.Author.Needs.{needs}
 use Rattle.checker.proofs.CheckReturns.{earlier-cases}
 use Rattle.checker.proofs.check.earlier_wrong.Statement.{statement}
 use Rattle.checker.proofs.check.earlier_wrong.Tie as tie
-use Rattle.checker.proofs.check.earlier_wrong.Reads as reads
-use Rattle.checker.proofs.check.earlier_wrong.Lts as lts
 
 returns : tie.Need-returns
 returns c = search (needs, earlier-cases)

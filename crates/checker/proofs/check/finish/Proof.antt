@@ -2,10 +2,6 @@ use borrow.Author.Needs.{needs}
 use Rattle.checker.proofs.CheckReturns.{finish-cases}
 use Rattle.checker.proofs.check.finish.Statement.{statement}
 use Rattle.checker.proofs.check.finish.Tie as tie
-use Rattle.checker.proofs.check.finish.Reads as reads
-use Rattle.checker.proofs.check.finish.Lts as lts
-use Rattle.checker.proofs.check.finish_stopped.Reads as finish-stopped-reads
-use Rattle.checker.proofs.check.refused.Reads as refused-reads
 
 enum-known-ran : tie.Need-enum-known-ran
 enum-known-ran c = search (needs, finish-cases)

@@ -2,10 +2,6 @@ use borrow.Author.Needs.{needs}
 use Rattle.checker.proofs.CheckReturns.{stop-cases}
 use Rattle.checker.proofs.check.finish_stopped.Statement.{statement}
 use Rattle.checker.proofs.check.finish_stopped.Tie as tie
-use Rattle.checker.proofs.check.finish_stopped.Reads as reads
-use Rattle.checker.proofs.check.finish_stopped.Lts as lts
-use Rattle.checker.proofs.check.read_on.Reads as read-on-reads
-use Rattle.checker.proofs.check.refused.Reads as refused-reads
 
 enum-known-stop : tie.Need-enum-known-stop
 enum-known-stop c = search (needs, stop-cases)

@@ -2,8 +2,6 @@ use borrow.Author.Needs.{needs}
 use Rattle.checker.proofs.CheckReturns.{sized-cases}
 use Rattle.checker.proofs.check.is_sized.Statement.{statement}
 use Rattle.checker.proofs.check.is_sized.Tie as tie
-use Rattle.checker.proofs.check.is_sized.Reads as reads
-use Rattle.checker.proofs.check.is_sized.Lts as lts
 
 returns : tie.Need-returns
 returns c = search (needs, sized-cases)

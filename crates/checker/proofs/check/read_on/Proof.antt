@@ -6,9 +6,6 @@ use Rattle.checker.specs.Glance.{readerOf}
 use Rattle.checker.proofs.CheckReturns.{read-cases}
 use Rattle.checker.proofs.check.read_on.Statement.{statement}
 use Rattle.checker.proofs.check.read_on.Tie as tie
-use Rattle.checker.proofs.check.read_on.Reads as reads
-use Rattle.checker.proofs.check.read_on.Lts as lts
-use Rattle.checker.proofs.glance.glance_at.Reads as glance-at-reads
 
 abbrev Inv-loop : tie.InvT-loop
 Inv-loop b sizes n at tree₀ place₀ tree place = ReadTo rawShape (readerOf b sizes) n tree place

@@ -2,8 +2,6 @@ use borrow.Author.Needs.{needs}
 use Rattle.checker.proofs.CheckReturns.{refused-cases}
 use Rattle.checker.proofs.check.refused.Statement.{statement}
 use Rattle.checker.proofs.check.refused.Tie as tie
-use Rattle.checker.proofs.check.refused.Reads as reads
-use Rattle.checker.proofs.check.refused.Lts as lts
 
 returns : tie.Need-returns
 returns c = search (needs, refused-cases)

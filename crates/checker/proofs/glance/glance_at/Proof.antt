@@ -2,10 +2,6 @@ use borrow.Author.Needs.{needs}
 use Rattle.checker.proofs.GlanceReturns.{glance-cases}
 use Rattle.checker.proofs.glance.glance_at.Statement.{statement}
 use Rattle.checker.proofs.glance.glance_at.Tie as tie
-use Rattle.checker.proofs.glance.glance_at.Reads as reads
-use Rattle.checker.proofs.glance.glance_at.Lts as lts
-use Rattle.checker.proofs.glance.glance_of.Reads as glance-of-reads
-use Rattle.decode.proofs.judge.tree_at.Reads as tree-at-reads
 
 tree-at-requires : tie.Need-tree-at-requires
 tree-at-requires c κs = search (needs, glance-cases)

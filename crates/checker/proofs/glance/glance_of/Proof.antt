@@ -2,8 +2,6 @@ use borrow.Author.Needs.{needs}
 use Rattle.checker.proofs.GlanceReturns.{glance-cases}
 use Rattle.checker.proofs.glance.glance_of.Statement.{statement}
 use Rattle.checker.proofs.glance.glance_of.Tie as tie
-use Rattle.checker.proofs.glance.glance_of.Reads as reads
-use Rattle.checker.proofs.glance.glance_of.Lts as lts
 
 enum-told : tie.Need-enum-told
 enum-told c = search (needs, glance-cases)
