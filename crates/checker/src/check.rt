@@ -22,21 +22,21 @@ ghost use Rattle.checker.specs.declared.glance.Glance.the-variants as gl
 const MAX_DEPTH: u32 = 256;
 
 // How far the check of a run has come.
-pub enum Ran {
+enum Ran {
     // The next tree, its byte place, and the lowest subtree with a wrong byte count (the tree count if none).
     Through(u32, usize, u32),
     Stopped(Stop),
 }
 
 // Why the check of a run has stopped.
-pub enum Stop {
+enum Stop {
     // A tree that cannot be read: number, tree.
     Unread(u32, u32),
     // Row 3 or 4: number, tree, its byte place.
     Unnested(u32, u32, usize),
 }
 
-pub enum Ending {
+enum Ending {
     End(usize),
     // A tree that cannot be read: number, tree.
     Unread(u32, u32),
