@@ -9,7 +9,7 @@ use tree::refusal::Verdict;
 use tree::types::Span;
 ghost use mathlib.Core.Path.{_≡_};
 ghost use mathlib.Core.List.{[], _∷_};
-ghost use Prim.Native.Nat.{_+_, _/_, _≤_, _<_};
+ghost use Prim.Native.Nat.{_+_, _≤_, _<_};
 ghost use lib.ListN.{length};
 ghost use Rattle.format.specs.Word.{put};
 ghost use Rattle.format.specs.Write.{heavyBytes};
