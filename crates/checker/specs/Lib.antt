@@ -1,0 +1,2 @@
+pub mod Glance
+pub mod Says
