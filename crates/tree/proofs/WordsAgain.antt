@@ -102,9 +102,9 @@ got-same : (t u : TokenTree) → Got t ≡ Got u → t ≡ u
 got-same t u e = cc
 
 -- what `tree_from_words` gives has the words that it was read from
-pub words-again : (w : ℕ → ℕ) (t : TokenTree) → wordsAnswer w ≡ Got t → treeWordsOf t ≡ thirteen w
+pub words-of-tree : (w : ℕ → ℕ) (t : TokenTree) → wordsAnswer w ≡ Got t → treeWordsOf t ≡ thirteen w
 unfolding wordsAnswer
-words-again w t e = go (wordFields w) refl
+words-of-tree w t e = go (wordFields w) refl
   where
     go : (x : Bool) → wordFields w ≡ x → treeWordsOf t ≡ thirteen w
     go true f = let d : Got (treeFrom w) ≡ Got t = simp f at e in ap treeWordsOf (sym (got-same (treeFrom w) t d)) ∙ tree-words-again w f
@@ -190,14 +190,14 @@ literal-back p e =
     simp (v, word-kind k r x f g h, word-count k r x f g h, word-suffix k r x f g h, a .0, b .most, c, a .2, b .back)
 
 -- the words of a tree whose fields are in range read as that tree
-pub tree-back : (t : TokenTree) → tokenFits t ≡ true → wordsAnswer (wordOf (treeWordsOf t) 0) ≡ Got t
+pub tree-of-words : (t : TokenTree) → tokenFits t ≡ true → wordsAnswer (wordOf (treeWordsOf t) 0) ≡ Got t
 unfolding wordsAnswer treeWordsOf treeFrom rawFrom tokenFits
-tree-back (trees.Leaf (leaves.Punct p)) e =
+tree-of-words (trees.Leaf (leaves.Punct p)) e =
     let a = spacing-back (p .spacing) in
     simp (and-left (endFits (p .span)) (isScalar (p .char)) e, and-right (endFits (p .span)) (isScalar (p .char)) e, a .0, a .1)
-tree-back (trees.Leaf (leaves.Ident p)) e = let a = is-raw-back (p .«is_raw») in simp (e, a .0, a .1)
-tree-back (trees.Leaf (leaves.Literal p)) e = literal-back p e
-tree-back (trees.Subtree p) e =
+tree-of-words (trees.Leaf (leaves.Ident p)) e = let a = is-raw-back (p .«is_raw») in simp (e, a .0, a .1)
+tree-of-words (trees.Leaf (leaves.Literal p)) e = literal-back p e
+tree-of-words (trees.Subtree p) e =
     let a = delimiter-back (p .kind) in
     simp (and-left (endFits (p .opening)) (endFits (p .closing)) e, and-right (endFits (p .opening)) (endFits (p .closing)) e, a .0, a .1)
 
