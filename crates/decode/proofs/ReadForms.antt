@@ -5,13 +5,12 @@ use mathlib.Core.Path.{_≡_, refl, sym, _∙_}
 use mathlib.Core.List.{List}
 use native.Mathlib.Omega.{arith}
 use borrow.Author.Tests.{lt-ltb, le-ltb, le-leb, lt-leb, eq-eqb, ne-eqb, not-true, not-false}
-use lib.Bits.{bitOr}
 use lib.ListN.{length}
 use Rattle.format.specs.Word.{byteAt, halfAt, wordAt}
 use Rattle.format.specs.Span.{Span, span, spanAt, symbol, symbolAt}
 use Rattle.format.specs.Span as format
 use Rattle.format.specs.Reader.{got}
-use Rattle.format.specs.Tree.{Raw, punct, subtree, identOf, literalOf, moved, shortKind, shortRaw, form000, form001, form010, closed101, form110, formShort, form111, controlled, afterSpan, treeAt}
+use Rattle.format.specs.Tree.{Raw, punct, subtree, identOf, literalOf, moved, distance, shortKind, shortRaw, form000, form001, form010, closed101, form110, formShort, form111, controlled, afterSpan, treeAt}
 use Rattle.format.specs.Fields.{isRawKind, fields}
 use Rattle.pack.specs.Answer.{spanOf, spanAnswer, symbolAnswer}
 use Rattle.pack.specs.declared.span.PackedSpan.{PackedSpan}
@@ -74,9 +73,10 @@ module _ (b : List ℕ) (q c : ℕ) (s : PackedSpan) where
     cut-001 = let g : length b < q + 3 = omega arith in simp (lt-leb _ _ g)
 
   module _ (h : 3 ≤ length b - q) (n m : ℕ) (e : n ≡ byteAt b (q + 1)) (f : m ≡ byteAt b (q + 2)) (r : RawRead) where
-    pub got-000 : r ≡ rawAnswer (inRange (got (subtree (record { index = s .index; start = s .start; len = 1 }) (record { index = s .index; start = s .start + bitOr (s .len) (c / 32 * 256); len = 1 }) n (c / 8 % 4)) (q + 3) m))
+    pub got-000 : (d : ℕ) → d ≡ distance (s .len) c
+        → r ≡ rawAnswer (inRange (got (subtree (record { index = s .index; start = s .start; len = 1 }) (record { index = s .index; start = s .start + d; len = 1 }) n (c / 8 % 4)) (q + 3) m))
         → r ≡ rawAnswer (inRange (form000 b (spanOf s) q c))
-    got-000 p = p ∙ let g : q + 3 ≤ length b = omega arith in simp (le-leb _ _ g, ← e, ← f)
+    got-000 d k p = p ∙ let g : q + 3 ≤ length b = omega arith in simp (le-leb _ _ g, ← e, ← f, k)
 
     pub got-001 : r ≡ rawAnswer (inRange (got (subtree (spanOf s) (moved (spanOf s) (s .index) (c / 32)) n (c / 8 % 4)) (q + 3) m))
         → r ≡ rawAnswer (inRange (form001 b (spanOf s) q c))

@@ -11,7 +11,6 @@ use Rattle.format.specs.Fields.{fields}
 use Rattle.format.proofs.TreeBounds.{Ended, tree-ended}
 use Rattle.tree.specs.Raw.{rawOf, rawAnswer, inRange}
 use Rattle.tree.specs.declared.raw.RawAt.{RawAt}
-use Rattle.tree.specs.declared.raw.RawTree.{RawTree}
 use Rattle.tree.specs.declared.raw.RawRead.{RawRead}
 use Rattle.tree.specs.declared.raw.RawRead.the-variants.{Got, Bad}
 use Rattle.tree.proofs.RawAgain.{raw-again}

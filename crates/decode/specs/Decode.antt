@@ -4,7 +4,6 @@ use mathlib.Core.Bool.{Bool, _&&_}
 use mathlib.Core.List.{List}
 use lib.Dec.{ltb}
 use Rattle.format.specs.Reader.{Reply, got, bad}
-use Rattle.format.specs.Span.{Span}
 use Rattle.format.specs.Tree.{Raw, punct, ident, literal, subtree, treeAt}
 use Rattle.format.specs.Tables.{rules, ownTables}
 use Rattle.format.specs.Buffer.{judge}

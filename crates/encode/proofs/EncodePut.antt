@@ -14,7 +14,8 @@ use Rattle.pack.specs.Packing.{SpanPacked}
 use Rattle.pack.specs.declared.Packed.{Packed}
 use Rattle.pack.specs.declared.Packed.the-variants.{Written, Refused}
 use Rattle.pack.proofs.Store.{put-then}
-use Rattle.pack.proofs.Sizes.{heavy-size, span-length, symbol-length}
+use Rattle.format.proofs.WriteSize.{heavy-size}
+use Rattle.pack.proofs.Sizes.{span-length, symbol-length}
 use Rattle.pack.proofs.Use.{never, smallest-written, smallest-count, smallest-contents, heavy-contents, symbol-contents}
 use Rattle.encode.specs.Ready.{SpanReady}
 

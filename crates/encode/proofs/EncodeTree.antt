@@ -4,7 +4,7 @@ use mathlib.Core.Bool.{Bool, true, false, not}
 use mathlib.Core.Path.{_≡_, refl, sym, ap, _∙_, subst}
 use mathlib.Core.List.{List, [], _∷_}
 use native.Mathlib.Omega.{arith}
-use borrow.Author.Tests.{le-leb, lt-leb, leb-true, ltb-true, eqb-true, not-true, not-false}
+use borrow.Author.Tests.{le-leb, lt-leb, leb-true, ltb-true, not-true, not-false}
 use lib.Dec.{leb, eqb}
 use lib.ListN.{length}
 use Rattle.format.specs.Test.{if_then_else_}
@@ -27,6 +27,7 @@ use Rattle.tree.specs.declared.raw.RawLiteral.{RawLiteral}
 use Rattle.tree.specs.declared.raw.RawSubtree.{RawSubtree}
 use Rattle.tree.specs.declared.raw.RawTree.{RawTree}
 use Rattle.tree.specs.declared.raw.RawTree.the-variants.{Punct, Ident, Literal, Subtree}
+use Rattle.tree.proofs.TypesWords.{count-255}
 use Rattle.encode.proofs.SizeReturns.{size-ident}
 
 -- ---- room
@@ -102,10 +103,6 @@ module _ (b : List ℕ) (at m : ℕ) (t : Raw) (kids : ℕ) (e : packTree b at m
   pub passed-room : at + length (treeBytes m t kids) ≤ length b
   passed-room = leb-true (at + length (treeBytes m t kids)) (length b) (rule-passed (leb (at + length (treeBytes m t kids)) (length b)) 6 0 (both (rule (indices t) 8 0) (roomFor b at (treeBytes m t kids)) (split .1) .1))
 
-raw-count-255 : (r : ℕ) (y : Bool) → (if y then leb r 255 else eqb r 0) ≡ true → r ≤ 255
-raw-count-255 r true e = leb-true r 255 e
-raw-count-255 r false e = let h = eqb-true r 0 e in omega arith
-
 span-ready : (s : Span) → spanFits s ≡ true → partFits s ≡ true → SpanReady s
 span-ready s e f = record { ends = leb-true (s .start + s .len) 4294967295 e; part = ltb-true (s .index) 268435456 f }
 
@@ -132,7 +129,7 @@ module _ (p : RawLiteral) (e : fields (literalRaw p) ≡ true) (f : indices (lit
         span = span-ready (spanOf (p .span)) (a .0) (and-left (partFits (spanOf (p .span))) (symbolFits (p .symbol)) f);
         symbol = ltb-true (p .symbol) 536870912 (and-right (partFits (spanOf (p .span))) (symbolFits (p .symbol)) f);
         kind = leb-true (p .kind) 10 (a .1);
-        count = raw-count-255 (p .«raw_count») (isRawKind (p .kind)) (a .2);
+        count = count-255 (p .«raw_count») (isRawKind (p .kind)) (a .2);
         suffix = leb-true (p .«suffix_len») 255 (a .3);
       }
 

@@ -11,11 +11,8 @@ use lib.ListN.{length}
 use Rattle.format.specs.Span.{Span}
 use Rattle.format.specs.Write.{heavyBytes, spanBytes, symbolBytes}
 use Rattle.format.specs.Pack.{spanForm}
+use Rattle.format.proofs.WriteSize.{heavy-size}
 use Rattle.pack.specs.Answer.{allBelow}
-
-pub heavy-size : (x : ℕ) (s : Span) → length (heavyBytes x s) ≡ 12
-unfolding heavyBytes
-heavy-size x s = refl
 
 module _ (x : ℕ) (s : Span) where
   pub small-size : allBelow s 16 131072 256 ≡ true → length (spanBytes x s) ≡ 4

@@ -1,10 +1,9 @@
 -- One law for each return of `decode_symbol`, `put_symbol`, with premises as the code's tests and calls give them.
 use Prim.Native.Nat.{ℕ, _+_, _*_, _-_, _/_, _%_, _<_, _≤_}
-use mathlib.Core.Path.{_≡_, refl, sym, _∙_}
+use mathlib.Core.Path.{_≡_, refl, _∙_}
 use mathlib.Core.List.{List, [], _∷_}
 use native.Mathlib.Omega.{arith}
 use borrow.Author.Tests.{lt-ltb, le-ltb, le-leb, lt-leb, eq-eqb, ne-eqb}
-use lib.Dec.{ltb, leb, eqb}
 use lib.ListN.{length}
 use Rattle.format.specs.Word.{byteAt, halfAt, halfBytes, put}
 use Rattle.format.specs.Span.{symbolAt}

@@ -26,7 +26,8 @@ use Rattle.pack.specs.declared.span.SpanRead.the-variants as spans
 use Rattle.pack.specs.declared.symbol.SymbolAt.{SymbolAt}
 use Rattle.pack.specs.declared.symbol.SymbolRead.{SymbolRead}
 use Rattle.pack.specs.declared.symbol.SymbolRead.the-variants as symbols
-use Rattle.pack.proofs.Sizes.{heavy-size, form-length, symbol-length}
+use Rattle.format.proofs.WriteSize.{heavy-size}
+use Rattle.pack.proofs.Sizes.{form-length, symbol-length}
 
 -- ---- a span that was read
 

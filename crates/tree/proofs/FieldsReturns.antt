@@ -9,7 +9,6 @@ use Rattle.format.specs.Test.{if_then_else_}
 use Rattle.format.specs.Span.{Span}
 use Rattle.format.specs.Tree.{punct, ident, literal, subtree}
 use Rattle.format.specs.Fields.{spanFits, isScalar, isRawKind, fields}
-use Rattle.pack.specs.Answer.{spanOf}
 use Rattle.tree.specs.Raw.{rawOf, punctRaw, identRaw, literalRaw, subtreeRaw}
 use Rattle.tree.specs.declared.raw.RawPunct.{RawPunct}
 use Rattle.tree.specs.declared.raw.RawIdent.{RawIdent}

@@ -4,3 +4,4 @@ pub mod KindsReturns
 pub mod TypesWords
 pub mod WordsReturns
 pub mod WordsTree
+pub mod WordsAgain

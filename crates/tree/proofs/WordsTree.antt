@@ -2,10 +2,9 @@
 use Prim.Native.Nat.{ℕ, _+_, _*_, _/_, _%_}
 use mathlib.Core.Bool.{Bool, true, false, not}
 use mathlib.Core.Path.{_≡_, sym, _∙_}
-use mathlib.Core.List.{List, [], _∷_, _++_}
+use mathlib.Core.List.{List, _∷_, _++_}
 use borrow.Author.Tests.{eq-eqb, ne-eqb, not-true, not-false}
 use lib.Dec.{eqb}
-use Rattle.format.specs.Test.{if_then_else_}
 use Rattle.format.specs.WordList.{wordOf, wordFields}
 use Rattle.tree.specs.Types.{spacingOf, isRawOf, delimiterOf, litKindOf, spacingWord, isRawWord, delimiterWord, litKindWord, spanList, zeros, treeWordsOf}
 use Rattle.tree.specs.Words.{spanFrom, treeFrom, wordsAnswer}

@@ -1,5 +1,4 @@
 -- The definitions' tree with indices as a value of this crate, case by case, and back.
-use Prim.Native.Nat.{ℕ}
 use Rattle.format.specs.Test.{if_then_else_}
 use Rattle.format.specs.Reader.{Reply, got, bad}
 use Rattle.format.specs.Tree.{Raw, punct, ident, literal, subtree}

@@ -21,8 +21,8 @@ add-byte-at-2 c = search (needs, form-cases)
 byte-at-requires-2 : tie.Need-byte-at-requires-2
 byte-at-requires-2 c κs = search (needs, form-cases)
 
-mul-subtree-on : tie.Need-mul-subtree-on
-mul-subtree-on c = search (needs, form-cases)
+distance-000-requires : tie.Need-distance-000-requires
+distance-000-requires c κs = search (needs, form-cases)
 
 add-subtree-on : tie.Need-add-subtree-on
 add-subtree-on c = search (needs, form-cases)
@@ -43,7 +43,7 @@ form-000-spec =
     byte-at-requires
     add-byte-at-2
     byte-at-requires-2
-    mul-subtree-on
+    distance-000-requires
     add-subtree-on
     subtree-on-requires
     returns-2)
