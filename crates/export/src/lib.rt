@@ -1,3 +1,5 @@
 // Functions on slices of numbers, for tests and benchmarks from Rust or C.
+pub mod buffers;
 pub mod packing;
+pub mod replies;
 pub mod trees;
