@@ -6,6 +6,7 @@ mod random;
 #[path = "../compare/words.rs"]
 mod words;
 
+mod buffers;
 mod list;
 mod timing;
 mod tree;
@@ -15,4 +16,5 @@ fn main() {
     println!("|---|---|---|---|");
     tree::spans();
     tree::trees();
+    buffers::run();
 }

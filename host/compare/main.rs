@@ -1,6 +1,10 @@
 //! The proved functions beside the unmodified source and, where that has no answer, beside a plain second implementation.
+mod buffers;
+mod lists;
 mod pack;
 mod plain;
+mod plain_buffer;
+mod plain_list;
 mod proved;
 mod random;
 mod tally;
@@ -11,12 +15,13 @@ use tally::Tally;
 
 fn main() {
     let many: u64 = std::env::args().nth(1).map_or(1, |x| x.parse().expect("how many times the usual number"));
-    let parts: [(&str, &dyn Fn(&mut Tally)); 5] = [
+    let parts: [(&str, &dyn Fn(&mut Tally)); 6] = [
         ("spans and symbols written", &|t| pack::write(t)),
         ("spans and symbols read", &|t| pack::read(t)),
         ("trees written", &|t| tree::write(t, 1_000_000 * many)),
         ("roots written", &|t| tree::write_roots(t, 200_000 * many)),
         ("trees read", &|t| tree::read(t, 50_000 * many)),
+        ("buffers checked", &|t| buffers::check(t, 40_000 * many)),
     ];
     let mut failed = false;
     for (what, run) in parts {

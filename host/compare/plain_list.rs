@@ -127,6 +127,11 @@ fn first_places<K: Copy + Eq + std::hash::Hash>(keys: impl Iterator<Item = K>) -
 
 /// Rows 1 to 5, then the work words and the bytes.
 pub fn write(list: &[u32], part_words: &[u32], symbols: &[u32]) -> Result<Written, Refusal> {
+    Ok(bytes(&trees(list, part_words, symbols)?, &mut Loose::default))
+}
+
+/// The trees with their indices, where rows 1 to 5 pass.
+pub fn trees(list: &[u32], part_words: &[u32], symbols: &[u32]) -> Result<Vec<Tree>, Refusal> {
     let parts: Vec<[u32; 3]> = part_words.chunks_exact(3).map(|w| part(w, 0)).collect();
     if !sized(list) || part_words.len() % 3 != 0 || !(2..=2 * TREES).contains(&parts.len()) || symbols.len() > TREES {
         return Err((1, 0));
@@ -162,10 +167,11 @@ pub fn write(list: &[u32], part_words: &[u32], symbols: &[u32]) -> Result<Writte
         found.ok_or((5, n as u64))?;
         trees.push(t);
     }
-    Ok(bytes(&trees))
+    Ok(trees)
 }
 
-fn bytes(trees: &[Tree]) -> Written {
+/// Work words and bytes; how each tree below the root is written is asked for, from the last to the first.
+pub fn bytes(trees: &[Tree], how: &mut dyn FnMut() -> Loose) -> Written {
     let k = trees.len();
     let mut work = vec![0u32; k + 1];
     let mut pieces = Vec::new();
@@ -173,9 +179,9 @@ fn bytes(trees: &[Tree]) -> Written {
         let piece = match trees[n] {
             Tree::Subtree { open, close, count, kind } => {
                 let children = u64::from(work[n + 1] - work[n + 1 + count as usize]);
-                if n == 0 { plain::write_root(open, close, count, kind, children) } else { plain::write(&trees[n], children, Loose::default()) }
+                if n == 0 { plain::write_root(open, close, count, kind, children) } else { plain::write(&trees[n], children, how()) }
             }
-            leaf => plain::write(&leaf, 0, Loose::default()),
+            leaf => plain::write(&leaf, 0, how()),
         };
         work[n] = work[n + 1] + piece.len() as u32;
         pieces.push(piece);

@@ -28,6 +28,12 @@ mod raw {
             work: *mut u32, work_words: usize,
             out: *mut u8, len: usize,
         ) -> u64;
+        pub fn tt_check(b: *const u8, len: usize, trees: u32, parts: usize, symbols: usize) -> u64;
+        pub fn tt_check_buffer(
+            b: *const u8, len: usize, trees: u32,
+            parts: *const u32, part_words: usize,
+            symbols: *const u32, symbol_words: usize,
+        ) -> u64;
         pub fn tt_tables(
             list: *const u32, words: usize,
             parts: *mut u32, part_words: usize,
@@ -120,4 +126,15 @@ pub fn tables(list: &[u32], parts: &mut [u32], part_counts: &mut [u32], symbols:
         )
     });
     reply.map(|code| (code >> 32, code & 0xFFFF_FFFF))
+}
+
+// ---- stored buffers
+
+pub fn check(b: &[u8], trees: u32, parts: usize, symbols: usize) -> Result<(), (u64, u64)> {
+    list_reply(unsafe { raw::tt_check(b.as_ptr(), b.len(), trees, parts, symbols) }).map(|_| ())
+}
+
+pub fn check_buffer(b: &[u8], trees: u32, parts: &[u32], symbols: &[u32]) -> Result<(), (u64, u64)> {
+    let reply = unsafe { raw::tt_check_buffer(b.as_ptr(), b.len(), trees, parts.as_ptr(), parts.len(), symbols.as_ptr(), symbols.len()) };
+    list_reply(reply).map(|_| ())
 }

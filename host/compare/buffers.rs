@@ -1,0 +1,78 @@
+//! Stored buffers: the writer's, loose ones in forms that the writer would not choose, and damaged ones.
+use crate::lists::Maker;
+use crate::plain_buffer::Buffer;
+use crate::plain_list;
+use crate::proved;
+use crate::random::Random;
+use crate::tally::Tally;
+use crate::tree::loose;
+
+pub struct Stored {
+    pub bytes: Vec<u8>,
+    pub trees: u32,
+    pub parts: Vec<u32>,
+    pub symbols: Vec<u32>,
+}
+
+impl Stored {
+    pub fn plain(&self) -> Buffer<'_> {
+        Buffer { bytes: &self.bytes, trees: self.trees.into(), part_words: &self.parts, symbols: &self.symbols }
+    }
+}
+
+/// By turns the writer's, a loose one, and one of these damaged.
+pub fn stored(seed: u64) -> (Random, Stored) {
+    let mut m = Maker::new(seed);
+    let list = if seed % 40 == 0 { m.limit_list() } else if seed % 40 == 1 { m.nested(256) } else { m.list() };
+    let (parts, symbols) = m.tables_for(&list);
+    let trees = plain_list::trees(&list, &parts, &symbols).expect("a list that rows 1 to 5 pass");
+    let written = if seed % 4 == 0 {
+        plain_list::bytes(&trees, &mut Default::default)
+    } else {
+        plain_list::bytes(&trees, &mut || loose(&mut m.r))
+    };
+    let mut s = Stored { bytes: written.bytes, trees: trees.len() as u32, parts, symbols };
+    if seed % 4 > 1 {
+        for _ in 0..1 + m.r.below(2) {
+            damage(&mut m.r, &mut s);
+        }
+    }
+    (m.r, s)
+}
+
+fn damage(r: &mut Random, s: &mut Stored) {
+    let place = r.below(s.bytes.len().max(1) as u64) as usize;
+    match r.below(10) {
+        0..3 if !s.bytes.is_empty() => s.bytes[place] ^= 1 << r.below(8),
+        3 if !s.bytes.is_empty() => s.bytes[place] = r.next() as u8,
+        4 => s.bytes.truncate(place),
+        5 => s.bytes.extend([0, 5, 1][..r.below(4) as usize].iter()),
+        6 => s.trees = if r.one_in(2) { s.trees.wrapping_sub(1) } else { s.trees + 1 },
+        7 => {
+            let less = r.pick(&[1, 3, 6]).min(s.parts.len());
+            s.parts.truncate(s.parts.len() - less);
+        }
+        8 => s.parts.extend([1, 2, 3]),
+        9 => {
+            s.symbols.pop();
+        }
+        // one tree's bytes stand twice, or are gone
+        _ => {
+            let to = (place + r.below(12) as usize).min(s.bytes.len());
+            s.bytes.drain(place.min(to)..to);
+        }
+    }
+}
+
+pub fn check(tally: &mut Tally, buffers: u64) {
+    let mut passed = 0;
+    for seed in 0..buffers {
+        let (_, s) = stored(seed);
+        let want = s.plain().check();
+        passed += u64::from(want.is_ok());
+        let sizes = proved::check(&s.bytes, s.trees, s.parts.len() / 3, s.symbols.len());
+        let same = proved::check_buffer(&s.bytes, s.trees, &s.parts, &s.symbols) == want && (s.parts.len() % 3 != 0 || sizes == want);
+        tally.case(same, || format!("buffer {seed}: {want:?}"));
+    }
+    assert!(passed * 3 > buffers && passed * 3 < 2 * buffers, "{passed} of {buffers} pass");
+}
