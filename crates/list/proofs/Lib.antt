@@ -1,0 +1,2 @@
+pub mod PassLaw
+pub mod Returns

@@ -1,0 +1,273 @@
+-- One law for each return and each turn of a loop, with premises as the code's tests and calls give them.
+use Prim.Native.Nat.{ℕ, zero, suc, _+_, _*_, _-_, _/_, _%_, _≤_, _<_}
+use mathlib.Core.Bool.{Bool, true, false, not, _&&_}
+use mathlib.Core.Path.{_≡_, refl, sym, ap, _∙_}
+use mathlib.Core.List.{List, [], _∷_}
+use native.Mathlib.Omega.{arith}
+use native.Mathlib.Nat.{add-zero}
+use borrow.Author.Tests.{le-leb, lt-leb, eq-eqb, ne-eqb, leb-true, not-true, not-false}
+use lib.Dec.{leb, eqb}
+use lib.ListN.{length, getD, set}
+use Rattle.format.specs.Test.{if_then_else_}
+use Rattle.format.specs.Verdict as format
+use Rattle.format.specs.Verdict.{passed, refused, _andThen_, eachFrom}
+use Rattle.format.specs.Nest.{stillOpen, innermost}
+use Rattle.format.specs.WordList.{wordOf, wordFields, listCount, listSized, listRules, listRows}
+use Rattle.format.proofs.Each.{and₃}
+use Rattle.format.proofs.NestLaw.{still-above, still-below}
+use Rattle.tree.specs.Refusal.{verdictAnswer}
+use Rattle.tree.specs.declared.refusal.Refusal.{Refusal}
+use Rattle.tree.specs.declared.refusal.Verdict.{Verdict}
+use Rattle.tree.specs.declared.refusal.Verdict.the-variants.{Passed, Refused}
+use Rattle.list.specs.Pass.{fieldsFrom, isSub, nextSub, isRooted, passFrom, nestRow, openEnds}
+use Rattle.list.proofs.PassLaw.{length-open, open-more, open-suc, pass-three, pass-four, pass-sub, pass-end, pass-next, next-sub, next-most, next-least, next-past, next-here, next-end}
+
+-- ---- answers
+
+pub refused-answer : (r n : ℕ) → Refused (record { number = r; tree = n }) ≡ verdictAnswer (refused r n)
+unfolding verdictAnswer
+refused-answer r n = refl
+
+passed-answer : Passed ≡ verdictAnswer passed
+unfolding verdictAnswer
+passed-answer = refl
+
+-- two checks of which the first refuses, or passes
+pub answer-refused : (v w : format.Verdict) (a : Refusal) → verdictAnswer v ≡ Refused a → verdictAnswer (v andThen w) ≡ Refused a
+unfolding verdictAnswer
+answer-refused passed w a e = let z : _≡_ {A = ℕ} 0 1 = cc in absurd (omega arith)
+answer-refused (refused r n) w a e = e
+
+pub answer-passed : (v w : format.Verdict) → verdictAnswer v ≡ Passed → verdictAnswer (v andThen w) ≡ verdictAnswer w
+unfolding verdictAnswer
+answer-passed passed w e = refl
+answer-passed (refused r n) w e = let z : _≡_ {A = ℕ} 0 1 = cc in absurd (omega arith)
+
+-- ---- row 2
+
+module _ (l : List ℕ) (n : ℕ) (e : fieldsFrom l 0 ≡ fieldsFrom l n) where
+  pub fields-end : listCount l ≤ n → Passed ≡ verdictAnswer (fieldsFrom l 0)
+  unfolding fieldsFrom eachFrom
+  fields-end h = let z : listCount l - n ≡ 0 = omega arith in passed-answer ∙ ap verdictAnswer (sym (e ∙ rw z))
+
+  module _ (h : n < listCount l) (y : Bool) (f : y ≡ wordFields (wordOf l n)) where
+    one-less : listCount l - n ≡ suc (listCount l - (n + 1))
+    one-less = omega arith
+
+    pub fields-two : not y ≡ true → (v : Verdict) → v ≡ verdictAnswer (refused 2 n) → v ≡ verdictAnswer (fieldsFrom l 0)
+    unfolding fieldsFrom eachFrom
+    fields-two k v q =
+        let a : wordFields (wordOf l n) ≡ false = sym f ∙ not-true y k in
+        q ∙ ap verdictAnswer (sym (e ∙ rw one-less (simp a)))
+
+    pub fields-next : not y ≡ false → fieldsFrom l 0 ≡ fieldsFrom l (n + 1)
+    unfolding fieldsFrom eachFrom
+    fields-next k =
+        let a : wordFields (wordOf l n) ≡ true = sym f ∙ not-false y k in
+        e ∙ rw one-less (simp a)
+
+pub ruleset row-two-cases = (fields-end, fields-two, fields-next)
+
+-- ---- the next subtree
+
+module _ (l : List ℕ) (from n : ℕ) (e : nextSub l from ≡ nextSub l n) where
+  pub next-stops : listCount l ≤ n → n ≡ nextSub l from
+  next-stops h = sym (e ∙ next-end l n h)
+
+  module _ (h : n < listCount l) where
+    sort : isSub l n ≡ eqb (getD l (13 * n) 0) 3
+    unfolding isSub
+    sort = rw (add-zero (13 * n))
+
+    pub next-found : getD l (13 * n) 0 ≡ 3 → n ≡ nextSub l from
+    next-found k = sym (e ∙ next-here l n h (sort ∙ eq-eqb _ _ k))
+
+    pub next-goes : (getD l (13 * n) 0 ≡ 3 → ⊥) → nextSub l from ≡ nextSub l (n + 1)
+    next-goes k = e ∙ next-past l n h (sort ∙ ne-eqb _ _ k)
+
+pub ruleset next-cases = (next-stops, next-found, next-goes)
+
+-- ---- the open ends
+
+module _ (ends : List ℕ) (n depth d : ℕ) (e : stillOpen n (openEnds depth ends) ≡ stillOpen n (openEnds d ends)) where
+  pub none-open : d ≤ 0 → openEnds d ends ≡ stillOpen n (openEnds depth ends)
+  unfolding openEnds stillOpen
+  none-open h = let z : d ≡ 0 = omega arith in sym (e ∙ rw z)
+
+  module _ (h : 0 < d) (x : ℕ) (f : x ≡ getD ends (d - 1) 0) where
+    pub stays-open : n < x → openEnds d ends ≡ stillOpen n (openEnds depth ends)
+    stays-open k = sym (e ∙ ap (stillOpen n) (open-suc d ends h) ∙ still-above n (getD ends (d - 1) 0) (openEnds (d - 1) ends) (omega arith) ∙ sym (open-suc d ends h))
+
+    pub is-shut : x ≤ n → stillOpen n (openEnds depth ends) ≡ stillOpen n (openEnds (d - 1) ends)
+    is-shut k = e ∙ ap (stillOpen n) (open-suc d ends h) ∙ still-below n (getD ends (d - 1) 0) (openEnds (d - 1) ends) (omega arith)
+
+pub ruleset open-cases = (none-open, stays-open, is-shut)
+
+module _ (ends : List ℕ) (depth count : ℕ) where
+  pub end-of-list : depth ≡ 0 → count ≡ innermost count (openEnds depth ends)
+  unfolding openEnds
+  end-of-list h = rw h
+
+  pub end-of-one : (depth ≡ 0 → ⊥) → (x : ℕ) → x ≡ getD ends (depth - 1) 0 → x ≡ innermost count (openEnds depth ends)
+  end-of-one h x e = e ∙ sym (ap (innermost count) (open-suc depth ends (omega arith)))
+
+pub ruleset around-cases = (end-of-list, end-of-one)
+
+-- ---- the root
+
+module _ (l : List ℕ) where
+  pub root-sort : (getD l 0 0 ≡ 3 → ⊥) → false ≡ isRooted l
+  unfolding isRooted
+  root-sort h = let a : eqb (getD l 0 0) 3 ≡ false = ne-eqb _ _ h in simp a
+
+  module _ (h : getD l 0 0 ≡ 3) (e : ℕ) (f : e ≡ 0 + 1 + wordOf l 0 1) where
+    pub root-part : (e ≡ listCount l → ⊥) → false ≡ isRooted l
+    unfolding isRooted
+    root-part k =
+        let a : eqb (getD l 0 0) 3 ≡ true = eq-eqb _ _ h in
+        let b : eqb (0 + 1 + wordOf l 0 1) (listCount l) ≡ false = ne-eqb _ _ (λ q. k (f ∙ q)) in
+        simp (a, b)
+
+    pub root-whole : e ≡ listCount l → true ≡ isRooted l
+    unfolding isRooted
+    root-whole k =
+        let a : eqb (getD l 0 0) 3 ≡ true = eq-eqb _ _ h in
+        let b : eqb (0 + 1 + wordOf l 0 1) (listCount l) ≡ true = eq-eqb _ _ (sym f ∙ k) in
+        simp (a, b)
+
+pub ruleset root-cases = (root-sort, root-part, root-whole)
+
+-- ---- the pass
+
+-- the pass has come to tree n, a subtree or the end, with these ends open
+pub record Passing (l : List ℕ) (n depth : ℕ) (ends : List ℕ) : Type 0 where
+  same : passFrom l 0 [] ≡ passFrom l n (openEnds depth ends)
+  here : n < listCount l → isSub l n ≡ true
+
+pub first-most : (l : List ℕ) (m : ℕ) → m ≡ nextSub l 0 → m ≤ listCount l
+first-most l m e = let a = next-most l 0 (omega arith) in omega arith
+
+pub most-next : (l : List ℕ) (n m : ℕ) → m ≡ nextSub l (n + 1) → n < listCount l → m ≤ listCount l
+most-next l n m e h = let a = next-most l (n + 1) (omega arith) in omega arith
+
+pub next-less : (l : List ℕ) (n m : ℕ) → m ≡ nextSub l (n + 1) → n < listCount l → listCount l - m < listCount l - n
+next-less l n m e h = let a = next-least l (n + 1) in omega arith
+
+pub pass-starts : (l ends : List ℕ) (n : ℕ) → n ≡ nextSub l 0 → Passing l n 0 ends
+unfolding openEnds
+pass-starts l ends n e =
+    record {
+      same = pass-next l 0 [] (omega arith) ∙ rw e;
+      here = λ h. rw e (next-sub l 0 (omega arith) (rw e at h));
+    }
+
+module _ (l ends : List ℕ) (n depth : ℕ) (p : Passing l n depth ends) where
+  pub pass-ends : listCount l ≤ n → Passed ≡ verdictAnswer (passFrom l 0 [])
+  pass-ends h = passed-answer ∙ ap verdictAnswer (sym (p .same ∙ pass-end l n (openEnds depth ends) h))
+
+  module _ (h : n < listCount l) (d : ℕ) (o : openEnds d ends ≡ stillOpen n (openEnds depth ends)) (a : ℕ) (f : a ≡ innermost (listCount l) (openEnds d ends))
+      (e : ℕ) (g : e ≡ n + 1 + wordOf l n 1) where
+    around : a ≡ innermost (listCount l) (stillOpen n (openEnds depth ends))
+    around = f ∙ ap (innermost (listCount l)) o
+
+    deep : length (stillOpen n (openEnds depth ends)) ≡ d
+    deep = ap length (sym o) ∙ length-open d ends
+
+    pub passes-end : a < e → (v : Verdict) → v ≡ verdictAnswer (refused 3 n) → v ≡ verdictAnswer (passFrom l 0 [])
+    passes-end k v q =
+        let u = around in
+        q ∙ ap verdictAnswer (sym (p .same ∙ pass-three l n (openEnds depth ends) h (p .here h) (omega arith)))
+
+    module _ (k : e ≤ a) where
+      pub too-deep : 256 ≤ d → (v : Verdict) → v ≡ verdictAnswer (refused 4 n) → v ≡ verdictAnswer (passFrom l 0 [])
+      too-deep i v q =
+          let u = around in
+          let w = deep in
+          q ∙ ap verdictAnswer (sym (p .same ∙ pass-four l n (openEnds depth ends) h (p .here h) (omega arith) (omega arith)))
+
+      pub pass-goes : d < 256 → (x : ℕ) → length ends ≡ x → x ≡ 256 → (m : ℕ) → m ≡ nextSub l (n + 1) → Passing l m (d + 1) (set ends d e)
+      pass-goes i x y z m r =
+          let u = around in
+          let w = deep in
+          record {
+            same = p .same ∙ pass-sub l n (openEnds depth ends) h (p .here h) (omega arith) (omega arith) ∙
+                ap (passFrom l (n + 1)) (rw (← g, ← o) (sym (open-more d e ends (omega arith)))) ∙
+                pass-next l (n + 1) (openEnds (d + 1) (set ends d e)) (omega arith) ∙ rw r;
+            here = λ j. rw r (next-sub l (n + 1) (omega arith) (rw r at j));
+          }
+
+pub ruleset pass-cases = (first-most, most-next, next-less, pass-starts, pass-ends, passes-end, too-deep, pass-goes)
+
+-- ---- the rows in turn
+
+module _ (l : List ℕ) (b : Bool) (e : b ≡ isRooted l) where
+  pub not-rooted : not b ≡ true → (v : Verdict) → v ≡ verdictAnswer (refused 3 0) → v ≡ verdictAnswer (nestRow l)
+  unfolding nestRow isRooted
+  not-rooted k v q = let a = sym e ∙ not-true b k in q ∙ simp a
+
+  pub rooted-pass : not b ≡ false → (v : Verdict) → v ≡ verdictAnswer (passFrom l 0 []) → v ≡ verdictAnswer (nestRow l)
+  unfolding nestRow isRooted passFrom
+  rooted-pass k v q =
+      let a = sym e ∙ not-false b k in
+      let z : listCount l - 0 ≡ listCount l = omega arith in
+      q ∙ simp (a, z)
+
+pub ruleset nest-cases = (not-rooted, rooted-pass)
+
+module _ (l : List ℕ) (r : Verdict) (e : r ≡ verdictAnswer (fieldsFrom l 0)) where
+  whole : verdictAnswer (fieldsFrom l 0 andThen nestRow l) ≡ verdictAnswer (listRules l)
+  unfolding listRules fieldsFrom nestRow
+  whole = let z : listCount l - 0 ≡ listCount l = omega arith in rw z
+
+  pub rules-two : (a : Refusal) → r ≡ Refused a → Refused a ≡ verdictAnswer (listRules l)
+  rules-two a k = sym (answer-refused (fieldsFrom l 0) (nestRow l) a (sym e ∙ k)) ∙ whole
+
+  pub rules-nest : r ≡ Passed → (v : Verdict) → v ≡ verdictAnswer (nestRow l) → v ≡ verdictAnswer (listRules l)
+  rules-nest k v q = q ∙ sym (answer-passed (fieldsFrom l 0) (nestRow l) (sym e ∙ k)) ∙ whole
+
+pub ruleset rules-cases = (rules-two, rules-nest)
+
+-- ---- row 1
+
+module _ (l : List ℕ) where
+  pub odd-words : (length l % 13 ≡ 0 → ⊥) → false ≡ listSized l
+  odd-words h = let a : eqb (length l % 13) 0 ≡ false = ne-eqb _ _ h in simp a
+
+  module _ (h : length l % 13 ≡ 0) where
+    even : eqb (length l % 13) 0 ≡ true
+    even = eq-eqb _ _ h
+
+    pub no-trees : listCount l < 1 → false ≡ listSized l
+    no-trees k = let a : leb 1 (listCount l) ≡ false = lt-leb 1 (listCount l) k in simp (even, a)
+
+    module _ (k : 1 ≤ listCount l) where
+      some : leb 1 (listCount l) ≡ true
+      some = le-leb 1 (listCount l) k
+
+      pub many-trees : 1048576 < listCount l → false ≡ listSized l
+      many-trees i = let a : leb (listCount l) 1048576 ≡ false = lt-leb (listCount l) 1048576 i in simp (even, some, a)
+
+      pub trees-fit : listCount l ≤ 1048576 → true ≡ listSized l
+      trees-fit i = let a : leb (listCount l) 1048576 ≡ true = le-leb (listCount l) 1048576 i in simp (even, some, a)
+
+pub ruleset sized-cases = (odd-words, no-trees, many-trees, trees-fit)
+
+-- what a caller learns of a list that row 1 passes
+module _ (l : List ℕ) (b : Bool) (e : b ≡ listSized l) (k : b ≡ true) where
+  three : (eqb (length l % 13) 0 ≡ true) × (leb 1 (listCount l) ≡ true) × (leb (listCount l) 1048576 ≡ true)
+  three = and₃ (eqb (length l % 13) 0) (leb 1 (listCount l)) (leb (listCount l) 1048576) (sym e ∙ k)
+
+  pub sized-some : 1 ≤ listCount l
+  sized-some = leb-true 1 (listCount l) (three .1)
+
+  pub sized-most : listCount l ≤ 1048576
+  sized-most = leb-true (listCount l) 1048576 (three .2)
+
+module _ (l : List ℕ) (b : Bool) (e : b ≡ listSized l) (v : Verdict) where
+  pub rows-one : not b ≡ true → v ≡ verdictAnswer (refused 1 0) → v ≡ verdictAnswer (listRows l)
+  rows-one k q = let a = sym e ∙ not-true b k in q ∙ simp a
+
+  pub rows-rules : not b ≡ false → v ≡ verdictAnswer (listRules l) → v ≡ verdictAnswer (listRows l)
+  rows-rules k q = let a = sym e ∙ not-false b k in q ∙ simp a
+
+pub ruleset rows-cases = (not-false, sized-some, sized-most, rows-one, rows-rules)

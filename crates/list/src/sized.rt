@@ -1,0 +1,159 @@
+// Rows 2 to 4 of a list whose tree count row 1 has passed.
+use tree::raw::place;
+use tree::refusal::Refusal;
+use tree::refusal::Verdict;
+use tree::words::word_fields;
+ghost use mathlib.Core.Path.{_≡_};
+ghost use mathlib.Core.List.{[]};
+ghost use Prim.Native.Nat.{_+_, _<_, _≤_};
+ghost use lib.ListN.{length};
+ghost use Rattle.format.specs.Nest.{stillOpen, innermost};
+ghost use Rattle.format.specs.Verdict.{refused};
+ghost use Rattle.format.specs.WordList.{wordOf, listCount, listRules};
+ghost use Rattle.list.specs.Pass.{fieldsFrom, nextSub, isRooted, passFrom, nestRow, openEnds};
+ghost use Rattle.tree.specs.Refusal.{verdictAnswer};
+
+// How many subtrees may be open at once.
+const DEPTH: usize = 256;
+
+// Row `number` at tree n.
+pub fn refused(number: u32, n: usize) -> Verdict
+    requires { ⌜ n < 4294967296 ⌝ }
+    ensures { λ r. ⌜ r ≡ verdictAnswer (refused number n) ⌝ }
+{
+    Verdict::Refused(Refusal {
+        number: number,
+        tree: n as u32,
+    })
+}
+
+// ---- row 2
+
+fn row_two(l: &[u32]) -> Verdict
+    requires { ⌜ listCount (now l) ≤ 1048576 ⌝ }
+    ensures { λ r. ⌜ r ≡ verdictAnswer (fieldsFrom (now (l .entry)) 0) ⌝ }
+{
+    let count = l.len() / 13;
+    let mut n: usize = 0;
+    while n < count {
+        if !word_fields(l, n) {
+            return refused(2, n);
+        }
+        n = n + 1;
+    }
+    Verdict::Passed
+}
+
+// ---- rows 3 and 4
+
+// The first subtree from a tree on, or the count.
+fn next_subtree(l: &[u32], from: usize) -> usize
+    requires { ⌜ from ≤ listCount (now l) ⌝ }
+    ensures { λ r. ⌜ r ≡ nextSub (now (l .entry)) from ⌝ }
+{
+    let count = l.len() / 13;
+    let mut n = from;
+    while n < count {
+        if l[13 * n] == 3 {
+            return n;
+        }
+        n = n + 1;
+    }
+    n
+}
+
+// How many of the open subtrees, the outermost first, end after tree n.
+fn still_open(ends: &[u32], depth: usize, n: usize) -> usize
+    requires { ⌜ depth ≤ length (now ends) ⌝ }
+    ensures { λ r. ⌜ (r ≤ depth) × (openEnds r (now (ends .entry)) ≡ stillOpen n (openEnds depth (now (ends .entry)))) ⌝ }
+{
+    let mut d = depth;
+    while 0 < d {
+        if n < place(ends[d - 1]) {
+            return d;
+        }
+        d = d - 1;
+    }
+    d
+}
+
+// The end of the innermost open subtree, or of the list.
+fn end_around(ends: &[u32], depth: usize, count: usize) -> usize
+    requires { ⌜ (depth ≤ length (now ends)) × (count < 4294967296) ⌝ }
+    ensures { λ r. ⌜ (r ≡ innermost count (openEnds depth (now (ends .entry)))) × (r < 4294967296) ⌝ }
+{
+    if depth == 0 {
+        return count;
+    }
+    place(ends[depth - 1])
+}
+
+// The number after the last descendant of subtree n.
+fn end_of(l: &[u32], n: usize) -> usize
+    requires { ⌜ (n < listCount (now l)) × (listCount (now l) ≤ 1048576) ⌝ }
+    ensures { λ r. ⌜ r ≡ n + 1 + wordOf (now (l .entry)) n 1 ⌝ }
+{
+    let count = place(l[13 * n + 1]);
+    n + 1 + count
+}
+
+// Whether tree 0 is a subtree that holds all others.
+fn is_rooted(l: &[u32]) -> bool
+    requires { ⌜ (1 ≤ listCount (now l)) × (listCount (now l) ≤ 1048576) ⌝ }
+    ensures { λ r. ⌜ r ≡ isRooted (now (l .entry)) ⌝ }
+{
+    if l[0] != 3 {
+        return false;
+    }
+    if end_of(l, 0) != l.len() / 13 {
+        return false;
+    }
+    true
+}
+
+// The ascending pass from subtree to subtree, with the ends of those that are open.
+fn nest_pass(l: &[u32], ends: &mut [u32]) -> Verdict
+    requires { ⌜ (listCount (now l) ≤ 1048576) × (length (now ends) ≡ 256) ⌝ }
+    ensures { λ r. ⌜ r ≡ verdictAnswer (passFrom (now (l .entry)) 0 []) ⌝ }
+{
+    let count = l.len() / 13;
+    let mut depth: usize = 0;
+    let mut n = next_subtree(l, 0);
+    while n < count {
+        let d = still_open(ends, depth, n);
+        let around = end_around(ends, d, count);
+        let end = end_of(l, n);
+        if around < end {
+            return refused(3, n);
+        }
+        if DEPTH <= d {
+            return refused(4, n);
+        }
+        ends[d] = end as u32;
+        depth = d + 1;
+        n = next_subtree(l, n + 1);
+    }
+    Verdict::Passed
+}
+
+fn nest(l: &[u32]) -> Verdict
+    requires { ⌜ (1 ≤ listCount (now l)) × (listCount (now l) ≤ 1048576) ⌝ }
+    ensures { λ r. ⌜ r ≡ verdictAnswer (nestRow (now (l .entry))) ⌝ }
+{
+    if !is_rooted(l) {
+        return refused(3, 0);
+    }
+    let mut ends = [0u32; 256];
+    nest_pass(l, &mut ends)
+}
+
+// The first of rows 2 to 4 that a list breaks, at the lowest tree.
+pub fn list_rules(l: &[u32]) -> Verdict
+    requires { ⌜ (1 ≤ listCount (now l)) × (listCount (now l) ≤ 1048576) ⌝ }
+    ensures { λ r. ⌜ r ≡ verdictAnswer (listRules (now (l .entry))) ⌝ }
+{
+    match row_two(l) {
+        Verdict::Passed => nest(l),
+        Verdict::Refused(at) => Verdict::Refused(at),
+    }
+}

@@ -1,0 +1,10 @@
+pub mod FindLaw
+pub mod KeyReturns
+pub mod ProbeLaw
+pub mod IndexLaw
+pub mod IndexReturns
+pub mod PortionsReturns
+pub mod TreeLaw
+pub mod WholeReturns
+pub mod ResolveReturns
+pub mod Use

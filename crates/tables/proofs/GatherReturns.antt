@@ -1,0 +1,186 @@
+-- Laws for the functions that gather: the search for a key, slot after slot, and the ways of entering one.
+use Prim.Native.Nat.{ℕ, zero, suc, _+_, _-_, _<_, _≤_}
+use mathlib.Core.Path.{_≡_, refl, ap, sym, _∙_}
+use mathlib.Core.Bool.{Bool, true, false}
+use mathlib.Core.List.{List}
+use native.Mathlib.Omega.{arith}
+use lib.ListN.{length, getD, set, replicate, length-set, length-replicate}
+use lib.Dec.{ltb}
+use borrow.Author.Tests.{lt-ltb, le-ltb}
+use Rattle.format.specs.Test.{if_then_else_}
+use Rattle.format.specs.Distinct.{news}
+use Rattle.format.specs.MakeTables.{keyCount, alikeAt}
+use Rattle.format.proofs.Tally.{tally-most}
+use Rattle.format.proofs.KeyLaw.{likeness}
+use Rattle.format.proofs.NewsLaw.{news-bound}
+use Rattle.tables.specs.Keys.{liveIn, slotOf, likeRank, UpTo, Under}
+use Rattle.tables.specs.Probe.{probe, atSlot, nextSlot, Gathered, Reached, Filled, FilledIf}
+use Rattle.tables.specs.declared.gather.Looked.{Looked}
+use Rattle.tables.specs.declared.gather.Looked.the-variants.{Found, Empty, Full}
+use Rattle.tables.proofs.Lists.{kept}
+use Rattle.tables.proofs.KeyReturns.{slot-same}
+use Rattle.tables.proofs.ProbeLaw.{probe-found, probe-empty}
+use Rattle.tables.proofs.GatherLaw.{gathered-none, gather-dead, gather-found, gather-new, reached-none, reach-none, reach-new}
+
+-- ---- the next slot
+
+pub next-on : (size s : ℕ) → s + 1 < size → s + 1 ≡ nextSlot size s
+next-on size s h = simp (lt-ltb _ _ h)
+
+pub next-round : (size s : ℕ) → size ≤ s + 1 → 0 ≡ nextSlot size s
+next-round size s h = simp (le-ltb _ _ h)
+
+-- ---- the search
+
+-- an entry of the table is one more than a rank, and the rank's key is one of the list
+module _ (p n : ℕ) (t f : List ℕ) (U : UpTo p t) (k x : ℕ) (e : x ≡ getD t k 0) (z : x ≡ 0 → ⊥) where
+  pub entry-rank : x - 1 < p
+  unfolding UpTo
+  entry-rank = let h : x ≤ p = rw e (U k) in omega arith
+
+  pub entry-index : (m : ℕ) → p ≤ m → x - 1 < m
+  entry-index m h = let g = entry-rank in omega arith
+
+  pub entry-key : (u : ℕ) → u ≡ getD f (x - 1) 0 → Under p n f → u < n
+  unfolding Under
+  entry-key u q B = rw q (B (x - 1) entry-rank)
+
+  pub entry-word : (u : ℕ) → u ≡ getD f (x - 1) 0 → Under p n f → n < 4294967295 → u < 4294967295
+  entry-word u q B h = let g = entry-key u q B in omega arith
+
+step-empty : (N : ℕ) (t : List ℕ) (T : ℕ → Bool) (s left : ℕ) → 0 < left → getD t s 0 ≡ 0 → probe N t T s left ≡ Empty s
+unfolding probe
+step-empty N t T s zero h e = absurd (omega arith)
+step-empty N t T s (suc left) h e = rw e
+
+at-found : (x e s : ℕ) (T : ℕ → Bool) (rest : Looked) → x ≡ e → (e ≡ 0 → ⊥) → T (e - 1) ≡ true → atSlot x s T rest ≡ Found (e - 1)
+at-found zero e s T rest q z h = absurd (z (sym q))
+at-found (suc x) e s T rest q z h = let i : e - 1 ≡ x = omega arith in rw i (simp (rw i at h))
+
+at-on : (x e s : ℕ) (T : ℕ → Bool) (rest : Looked) → x ≡ e → (e ≡ 0 → ⊥) → T (e - 1) ≡ false → atSlot x s T rest ≡ rest
+at-on zero e s T rest q z h = absurd (z (sym q))
+at-on (suc x) e s T rest q z h = let i : e - 1 ≡ x = omega arith in simp (rw i at h)
+
+step-found : (N : ℕ) (t : List ℕ) (T : ℕ → Bool) (s left e : ℕ) → 0 < left → getD t s 0 ≡ e → (e ≡ 0 → ⊥) → T (e - 1) ≡ true → probe N t T s left ≡ Found (e - 1)
+unfolding probe
+step-found N t T s zero e h q z g = absurd (omega arith)
+step-found N t T s (suc left) e h q z g = at-found (getD t s 0) e s T (probe N t T (nextSlot N s) left) q z g
+
+step-on : (N : ℕ) (t : List ℕ) (T : ℕ → Bool) (s left e : ℕ) → 0 < left → getD t s 0 ≡ e → (e ≡ 0 → ⊥) → T (e - 1) ≡ false → probe N t T s left ≡ probe N t T (nextSlot N s) (left - 1)
+unfolding probe
+step-on N t T s zero e h q z g = absurd (omega arith)
+step-on N t T s (suc left) e h q z g =
+    let i : suc left - 1 ≡ left = omega arith in
+    rw i (at-on (getD t s 0) e s T (probe N t T (nextSlot N s) left) q z g)
+
+step-full : (N : ℕ) (t : List ℕ) (T : ℕ → Bool) (s left : ℕ) → left ≤ 0 → probe N t T s left ≡ Full
+unfolding probe
+step-full N t T s left h = let i : left ≡ 0 = omega arith in rw i
+
+module _ (l : List ℕ) (symbols : Bool) (v N : ℕ) (t f : List ℕ) (start s left : ℕ) where
+  module _ (inv : probe N t (likeRank l symbols f v) start N ≡ probe N t (likeRank l symbols f v) s left) where
+    pub look-full : left ≤ 0 → Full ≡ probe N t (likeRank l symbols f v) start N
+    look-full h = sym (inv ∙ step-full N t (likeRank l symbols f v) s left h)
+
+    module _ (h : 0 < left) (e : ℕ) (q : e ≡ getD t s 0) where
+      pub look-empty : e ≡ 0 → Empty s ≡ probe N t (likeRank l symbols f v) start N
+      look-empty z = sym (inv ∙ step-empty N t (likeRank l symbols f v) s left h (sym q ∙ z))
+
+      module _ (z : e ≡ 0 → ⊥) (u : ℕ) (k : u ≡ getD f (e - 1) 0) (b : Bool) (a : b ≡ alikeAt l symbols u v) where
+        pub look-found : b ≡ true → Found (e - 1) ≡ probe N t (likeRank l symbols f v) start N
+        unfolding likeRank
+        look-found y = sym (inv ∙ step-found N t (likeRank l symbols f v) s left e h (sym q) z (rw (sym k) (sym a ∙ y)))
+
+        pub look-on : b ≡ false → (s′ : ℕ) → s′ ≡ nextSlot N s → probe N t (likeRank l symbols f v) start N ≡ probe N t (likeRank l symbols f v) s′ (left - 1)
+        unfolding likeRank
+        look-on y s′ n = inv ∙ step-on N t (likeRank l symbols f v) s left e h (sym q) z (rw (sym k) (sym a ∙ y)) ∙ rw n
+
+pub ruleset look-cases = (next-on, next-round, entry-rank, entry-index, entry-key, entry-word, look-full, look-empty, look-found, look-on)
+
+-- ---- the ways of entering a key
+
+module _ (l : List ℕ) (s : Bool) (C k N v p : ℕ) (t f c : List ℕ) (F : Filled l s C k N v p t f c) where
+  pub filled-upto : UpTo p t
+  unfolding UpTo
+  filled-upto = F .reached .entries
+
+  pub filled-under : v < keyCount l s → Under p (keyCount l s) f
+  unfolding Under
+  filled-under h r g =
+      let e : getD f r 0 ≡ getD (news (liveIn l s C k) (alikeAt l s) v) r 0 = F .gathered .keys r g in
+      let b : getD (news (liveIn l s C k) (alikeAt l s) v) r 0 < v = news-bound (liveIn l s C k) (alikeAt l s) v r (omega (arith, F .gathered .number)) in
+      omega arith
+
+  pub filled-dead : (m : ℕ) (b : Bool) → b ≡ liveIn l s C k v → b ≡ false → FilledIf m l s C k N (v + 1) p t f c
+  filled-dead m b e h =
+      record { filled = λ _. record { gathered = gather-dead (liveIn l s C k) (alikeAt l s) v p f c (F .gathered) (sym e ∙ h); reached = F .reached } }
+
+  pub filled-over : (m : ℕ) → FilledIf m l s C k N (v + 1) (m + 1) t f c
+  filled-over m = record { filled = λ h. absurd (omega arith) }
+
+  module _ (start : ℕ) (es : start ≡ slotOf l s N v) (q : Looked) (eq : q ≡ probe N t (likeRank l s f v) start N) where
+    module _ (e : ℕ) (i : q ≡ Found e) where
+      found-like : (alikeAt l s (getD f e 0) v ≡ true) × (e < p)
+      unfolding likeRank
+      found-like = probe-found N t (likeRank l s f v) p start N e (F .reached .entries) (sym eq ∙ i)
+
+      pub found-count : v < keyCount l s → keyCount l s < 4294967295 → getD c e 0 < 4294967295
+      found-count h g =
+          let z : getD c e 0 ≤ v = rw (F .gathered .counts e (found-like .1)) (tally-most _ v) in
+          omega arith
+
+      pub filled-found : (c′ : List ℕ) → liveIn l s C k v ≡ true → c′ ≡ set c e (getD c e 0 + 1) → p ≤ length f → length c ≡ length f
+          → FilledIf (length f) l s C k N (v + 1) p t f c′
+      filled-found c′ d w h g =
+          record {
+            filled = λ _. rw w (record {
+              gathered = gather-found (liveIn l s C k) (alikeAt l s) v p f c (F .gathered) (likeness l s) d e (found-like .1) (omega arith) (found-like .0);
+              reached = F .reached;
+            });
+          }
+
+    module _ (j : ℕ) (i : q ≡ Empty j) where
+      pub filled-new : (x : ℕ) (t′ f′ c′ : List ℕ) → liveIn l s C k v ≡ true → start < N → p ≤ length f → (p ≡ length f → ⊥) → length c ≡ length f
+          → x ≡ p + 1 → t′ ≡ set t j (p + 1) → f′ ≡ set f p v → c′ ≡ set c p 1
+          → FilledIf (length f) l s C k N (v + 1) x t′ f′ c′
+      unfolding likeRank
+      filled-new x t′ f′ c′ d hs hp hn hc ex et ef ec =
+          let hf : p < length f = omega arith in
+          let g : probe N t (likeRank l s f v) (slotOf l s N v) N ≡ Empty j = rw (sym es) (sym eq ∙ i) in
+          record {
+            filled = λ _. rw (et, ex, ef, ec) (record {
+              gathered = gather-new (liveIn l s C k) (alikeAt l s) v p f c (F .gathered) (likeness l s) d hf (omega arith)
+                  (reach-none (alikeAt l s) (slotOf l s N) N v p t f (F .reached) (λ a b. slot-same l N a b s) j g);
+              reached = reach-new (alikeAt l s) (slotOf l s N) N v p t f (F .reached) (λ a b. slot-same l N a b s) j (rw es at hs) hf g;
+            });
+          }
+
+pub told-true : (x b : Bool) → b ≡ x → b ≡ true → x ≡ true
+told-true x b e h = sym e ∙ h
+
+pub ruleset enter-cases = (kept, told-true, filled-upto, filled-under, filled-dead, filled-over, found-count, filled-found, filled-new)
+
+-- ---- all keys
+
+module _ (l : List ℕ) (s : Bool) (C k N : ℕ) (t f c : List ℕ) where
+  -- over another name of the table's length
+  pub filled-size : (N′ v p : ℕ) → Filled l s C k N v p t f c → N′ ≡ N → Filled l s C k N′ v p t f c
+  filled-size N′ v p F e = rw e F
+
+  pub filled-again : (m room N′ v q : ℕ) → FilledIf m l s C k N′ v q t f c → q ≤ room → m ≡ room → N′ ≡ N → Filled l s C k N v q t f c
+  filled-again m room N′ v q F h g e = rw e at (F .filled (omega arith))
+
+  pub filled-many : (m v q : ℕ) → m < q → FilledIf m l s C k N v q t f c
+  filled-many m v q h = record { filled = λ g. absurd (omega arith) }
+
+  pub filled-all : (m v n p : ℕ) → Filled l s C k N v p t f c → v ≤ n → n ≤ v → FilledIf m l s C k N n p t f c
+  filled-all m v n p F a b = let e : v ≡ n = omega arith in record { filled = λ _. rw e at F }
+
+pub ruleset gather-cases = (kept, filled-size, filled-again, filled-many, filled-all)
+
+-- nothing is entered yet in arrays of zeros
+pub filled-none : (l : List ℕ) (s : Bool) (C k size m : ℕ) (c : List ℕ)
+    → Filled l s C k (length (replicate {A = ℕ} size 0)) 0 0 (replicate size 0) (replicate m 0) c
+filled-none l s C k size m c =
+    let z : length (replicate {A = ℕ} size 0) ≡ size = length-replicate size 0 in
+    rw z (record { gathered = gathered-none (liveIn l s C k) (alikeAt l s) (replicate m 0) c; reached = reached-none (alikeAt l s) (slotOf l s size) size m })

@@ -1,0 +1,16 @@
+pub mod Lists
+pub mod KeyReturns
+pub mod ProbeLaw
+pub mod GatherLaw
+pub mod GatherReturns
+pub mod ArrangeLaw
+pub mod TableLaw
+pub mod TableReturns
+pub mod SortLaw
+pub mod SortReturns
+pub mod ScanReturns
+pub mod SettleLaw
+pub mod SettleReturns
+pub mod LargeReturns
+pub mod CountReturns
+pub mod MakeReturns

@@ -1,0 +1,62 @@
+use borrow.Author.Needs.{needs}
+use Rattle.tables.proofs.KeyReturns.{key-cases}
+use Rattle.tables.proofs.keys.live.Statement.{statement}
+use Rattle.tables.proofs.keys.live.Tie as tie
+use Rattle.tables.proofs.keys.live.Reads as reads
+use Rattle.tables.proofs.keys.live.Lts as lts
+use Rattle.tables.proofs.keys.sort_of.Reads as sort-of-reads
+
+-- src/keys.rt:79:31
+add-sort-of : tie.Need-add-sort-of
+add-sort-of c = search (needs, key-cases)
+
+-- src/keys.rt:79:13
+sort-of-requires : tie.Need-sort-of-requires
+sort-of-requires c κs = search (needs, key-cases)
+
+-- src/keys.rt:81:13
+returns : tie.Need-returns
+returns c = search (needs, key-cases)
+
+-- src/keys.rt:84:13
+returns-2 : tie.Need-returns-2
+returns-2 c = search (needs, key-cases)
+
+-- src/keys.rt:86:9
+returns-3 : tie.Need-returns-3
+returns-3 c = search (needs, key-cases)
+
+-- src/keys.rt:89:9
+returns-4 : tie.Need-returns-4
+returns-4 c = search (needs, key-cases)
+
+-- src/keys.rt:91:19
+add-sort-of-2 : tie.Need-add-sort-of-2
+add-sort-of-2 c = search (needs, key-cases)
+
+-- src/keys.rt:91:8
+sort-of-requires-2 : tie.Need-sort-of-requires-2
+sort-of-requires-2 c κs = search (needs, key-cases)
+
+-- src/keys.rt:92:9
+returns-5 : tie.Need-returns-5
+returns-5 c = search (needs, key-cases)
+
+-- src/keys.rt:74:1
+returns-6 : tie.Need-returns-6
+returns-6 c = search (needs, key-cases)
+
+pub live-spec : {M : Type 1} → statement M
+live-spec =
+    tie.close
+    (tie.spec
+    add-sort-of
+    sort-of-requires
+    returns
+    returns-2
+    returns-3
+    returns-4
+    add-sort-of-2
+    sort-of-requires-2
+    returns-5
+    returns-6)

@@ -1,0 +1,64 @@
+use Rattle.tables.specs.Pairs.{Scanned}
+use lib.ListN.{length}
+use mathlib.Core.Path.{_≡_}
+use Prim.Native.Nat.{ℕ, _+_, _-_, _≤_, _<_}
+use borrow.Author.Needs.{needs}
+use Rattle.tables.proofs.ScanReturns.{scan-cases}
+use Rattle.tables.proofs.scan.scan.Statement.{statement}
+use Rattle.tables.proofs.scan.scan.Tie as tie
+use Rattle.tables.proofs.scan.scan.Reads as reads
+use Rattle.tables.proofs.scan.scan.Lts as lts
+use Rattle.tables.proofs.scan.scan_one.Reads as scan-one-reads
+
+abbrev Inv-loop : tie.InvT-loop
+Inv-loop l symbols n words₀ tallies₀ v₀ p₀ words tallies v p = (v ≤ n) × (length words ≡ length words₀) × (length tallies ≡ length tallies₀) × Scanned l symbols v p words₀ words tallies₀ tallies
+
+abbrev μ-loop : tie.MeasureT-loop
+μ-loop l symbols n words₀ tallies₀ v₀ p₀ words tallies v p = n - v
+
+-- src/scan.rt:74:5
+loop-holds : tie.Need-loop-holds Inv-loop μ-loop
+loop-holds c = search (needs, scan-cases)
+
+-- src/scan.rt:75:9
+scan-one-requires : tie.Need-scan-one-requires Inv-loop μ-loop
+scan-one-requires c κs = ((search (needs, scan-cases), search (needs, scan-cases), search (needs, scan-cases)), (search (needs, scan-cases), search (needs, scan-cases)))
+
+-- src/scan.rt:76:13
+add-v : tie.Need-add-v Inv-loop μ-loop
+add-v c = search (needs, scan-cases)
+
+-- src/scan.rt:74:5
+loop-less : tie.Need-loop-less Inv-loop μ-loop
+loop-less c = search (needs, scan-cases)
+
+-- src/scan.rt:74:5
+loop-again : tie.Need-loop-again Inv-loop μ-loop
+loop-again c = search (needs, scan-cases)
+
+-- src/scan.rt:67:1
+same-length : tie.Need-same-length Inv-loop μ-loop
+same-length c = search (needs, scan-cases)
+
+-- src/scan.rt:67:1
+same-length-2 : tie.Need-same-length-2 Inv-loop μ-loop
+same-length-2 c = search (needs, scan-cases)
+
+-- src/scan.rt:67:1
+returns : tie.Need-returns Inv-loop μ-loop
+returns c = search (needs, scan-cases)
+
+pub scan-spec : {M : Type 1} → statement M
+scan-spec =
+    tie.close
+    (tie.spec
+    Inv-loop
+    μ-loop
+    loop-holds
+    scan-one-requires
+    add-v
+    loop-less
+    loop-again
+    same-length
+    same-length-2
+    returns)

@@ -1,0 +1,7 @@
+pub mod Keys
+pub mod Probe
+pub mod Arrange
+pub mod Runs
+pub mod Pairs
+pub mod Count
+pub mod Made

@@ -1,0 +1,163 @@
+// The distinct keys of a list, or of one class of it, with their counts: gathered through a hash table of ranks.
+use crate::keys::alike;
+use crate::keys::live_in;
+use crate::keys::raise;
+use crate::keys::set_at;
+use crate::keys::size;
+use crate::keys::slot;
+ghost use mathlib.Core.Path.{_≡_};
+ghost use mathlib.Core.Bool.{Bool, true, false};
+ghost use Prim.Native.Nat.{_+_, _*_, _/_, _≤_, _<_};
+ghost use lib.ListN.{length, getD, set};
+ghost use Rattle.format.specs.MakeTables.{keyCount};
+ghost use Rattle.tables.specs.Keys.{liveIn, likeRank, UpTo, Under};
+ghost use Rattle.tables.specs.Probe.{probe, nextSlot, Filled, FilledIf};
+
+pub enum Looked {
+    Found(usize),
+    Empty(usize),
+    Full,
+}
+
+fn next_slot(s: usize, size: usize) -> usize
+    requires { ⌜ s < size ⌝ }
+    ensures { λ r. ⌜ (r ≡ nextSlot size s) × (r < size) ⌝ }
+{
+    if s + 1 < size {
+        return s + 1;
+    }
+    0
+}
+
+// Looks for key v from a slot on, among p ranks.
+fn look(l: &[u32], symbols: bool, v: usize, p: usize, table: &[u32], firsts: &[u32], start: usize) -> Looked
+    requires { ⌜ (v < keyCount (now l) symbols) × (keyCount (now l) symbols < 4294967295) ⌝ }
+    requires { ⌜ (start < length (now table)) × (p ≤ length (now firsts)) ⌝ }
+    requires { ⌜ UpTo p (now table) × Under p (keyCount (now l) symbols) (now firsts) ⌝ }
+    ensures { λ r. ⌜ r ≡ probe (length (now (table .entry))) (now (table .entry))
+        (likeRank (now (l .entry)) symbols (now (firsts .entry)) v) start (length (now (table .entry))) ⌝ }
+{
+    let mut s = start;
+    let mut left = table.len();
+    while 0 < left {
+        let e = size(table[s]);
+        if e == 0 {
+            return Looked::Empty(s);
+        }
+        let u = size(firsts[e - 1]);
+        if alike(l, symbols, u, v) {
+            return Looked::Found(e - 1);
+        }
+        s = next_slot(s, table.len());
+        left = left - 1;
+    }
+    Looked::Full
+}
+
+// Key v is the first of rank p, and slot s is its.
+fn join(v: usize, p: usize, s: usize, table: &mut [u32], firsts: &mut [u32], counts: &mut [u32]) -> usize
+    requires { ⌜ (v < 4294967295) × (p < 4294967295) ⌝ }
+    ensures { λ r. ⌜ r ≡ p + 1 ⌝ }
+    ensures { λ _. ⌜ now (table .exit) ≡ set (now (table .entry)) s (p + 1) ⌝ }
+    ensures { λ _. ⌜ now (firsts .exit) ≡ set (now (firsts .entry)) p v ⌝ }
+    ensures { λ _. ⌜ now (counts .exit) ≡ set (now (counts .entry)) p 1 ⌝ }
+{
+    let next = p + 1;
+    set_at(table, s, next as u32);
+    set_at(firsts, p, v as u32);
+    set_at(counts, p, 1);
+    next
+}
+
+// Enters key v, which is one. The answer is the number of distinct keys, or more than there is room for.
+fn enter_key(
+    l: &[u32],
+    symbols: bool,
+    classes: usize,
+    class: usize,
+    v: usize,
+    p: usize,
+    table: &mut [u32],
+    firsts: &mut [u32],
+    counts: &mut [u32],
+) -> usize
+    requires { ⌜ (v < keyCount (now l) symbols) × (keyCount (now l) symbols < 4294967295) × (classes ≤ 1048576) ⌝ }
+    requires { ⌜ (0 < length (now table)) × (length (now table) ≤ 1048576) ⌝ }
+    requires { ⌜ (p ≤ length (now firsts)) × (length (now firsts) ≤ 1048576) × (length (now counts) ≡ length (now firsts)) ⌝ }
+    requires { ⌜ Filled (now l) symbols classes class (length (now table)) v p (now table) (now firsts) (now counts) ⌝ }
+    requires { ⌜ liveIn (now l) symbols classes class v ≡ true ⌝ }
+    ensures { λ r. ⌜ FilledIf (length (now (firsts .entry))) (now (l .entry)) symbols classes class (length (now (table .entry)))
+        (v + 1) r (now (table .exit)) (now (firsts .exit)) (now (counts .exit)) ⌝ }
+{
+    let room = firsts.len();
+    let start = slot(l, symbols, v, table.len());
+    match look(l, symbols, v, p, table, firsts, start) {
+        Looked::Found(e) => {
+            raise(counts, e);
+            p
+        }
+        Looked::Empty(s) => {
+            if p == room {
+                return room + 1;
+            }
+            join(v, p, s, table, firsts, counts)
+        }
+        Looked::Full => room + 1,
+    }
+}
+
+fn enter(
+    l: &[u32],
+    symbols: bool,
+    classes: usize,
+    class: usize,
+    v: usize,
+    p: usize,
+    table: &mut [u32],
+    firsts: &mut [u32],
+    counts: &mut [u32],
+) -> usize
+    requires { ⌜ (v < keyCount (now l) symbols) × (keyCount (now l) symbols < 4294967295) × (classes ≤ 1048576) ⌝ }
+    requires { ⌜ (0 < length (now table)) × (length (now table) ≤ 1048576) ⌝ }
+    requires { ⌜ (p ≤ length (now firsts)) × (length (now firsts) ≤ 1048576) × (length (now counts) ≡ length (now firsts)) ⌝ }
+    requires { ⌜ Filled (now l) symbols classes class (length (now table)) v p (now table) (now firsts) (now counts) ⌝ }
+    ensures { λ r. ⌜ FilledIf (length (now (firsts .entry))) (now (l .entry)) symbols classes class (length (now (table .entry)))
+        (v + 1) r (now (table .exit)) (now (firsts .exit)) (now (counts .exit)) ⌝ }
+{
+    if live_in(l, symbols, classes, class, v) {
+        return enter_key(l, symbols, classes, class, v, p, table, firsts, counts);
+    }
+    p
+}
+
+// Enters all n keys.
+pub fn gather(
+    l: &[u32],
+    symbols: bool,
+    classes: usize,
+    class: usize,
+    n: usize,
+    table: &mut [u32],
+    firsts: &mut [u32],
+    counts: &mut [u32],
+) -> usize
+    requires { ⌜ (n ≡ keyCount (now l) symbols) × (n < 4294967295) × (classes ≤ 1048576) ⌝ }
+    requires { ⌜ (0 < length (now table)) × (length (now table) ≤ 1048576) ⌝ }
+    requires { ⌜ (length (now firsts) ≤ 1048576) × (length (now counts) ≡ length (now firsts)) ⌝ }
+    requires { ⌜ Filled (now l) symbols classes class (length (now table)) 0 0 (now table) (now firsts) (now counts) ⌝ }
+    ensures { λ r. ⌜ FilledIf (length (now (firsts .entry))) (now (l .entry)) symbols classes class (length (now (table .entry)))
+        n r (now (table .exit)) (now (firsts .exit)) (now (counts .exit)) ⌝ }
+{
+    let room = firsts.len();
+    let mut v: usize = 0;
+    let mut p: usize = 0;
+    while v < n {
+        let q = enter(l, symbols, classes, class, v, p, table, firsts, counts);
+        if room < q {
+            return q;
+        }
+        p = q;
+        v = v + 1;
+    }
+    p
+}
