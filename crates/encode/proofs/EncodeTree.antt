@@ -106,42 +106,43 @@ module _ (b : List ℕ) (at m : ℕ) (t : Raw) (kids : ℕ) (e : packTree b at m
 span-ready : (s : Span) → spanFits s ≡ true → partFits s ≡ true → SpanReady s
 span-ready s e f = record { ends = leb-true (s .start + s .len) 4294967295 e; part = ltb-true (s .index) 268435456 f }
 
-module _ (p : RawPunct) (e : fields (punctRaw p) ≡ true) (f : indices (punctRaw p) ≡ true) where
-  fit-punct : PunctReady p
-  fit-punct =
-      let a = and₃ (spanFits (spanOf (p .span))) (isScalar (p .char)) (leb (p .spacing) 2) e in
-      record { span = span-ready (spanOf (p .span)) (a .0) f; spacing = leb-true (p .spacing) 2 (a .2) }
+-- fields and indices in range
+fit-punct : (p : RawPunct) → fields (punctRaw p) ≡ true → indices (punctRaw p) ≡ true → PunctReady p
+fit-punct p e f =
+    let a = and₃ (spanFits (spanOf (p .span))) (isScalar (p .char)) (leb (p .spacing) 2) e in
+    record { span = span-ready (spanOf (p .span)) (a .0) f; spacing = leb-true (p .spacing) 2 (a .2) }
 
-module _ (p : RawIdent) (e : fields (identRaw p) ≡ true) (f : indices (identRaw p) ≡ true) where
-  fit-ident : IdentReady p
-  fit-ident =
-      record {
-        span = span-ready (spanOf (p .span)) (and-left (spanFits (spanOf (p .span))) (leb (p .raw) 1) e) (and-left (partFits (spanOf (p .span))) (symbolFits (p .symbol)) f);
-        symbol = ltb-true (p .symbol) 536870912 (and-right (partFits (spanOf (p .span))) (symbolFits (p .symbol)) f);
-        raw = leb-true (p .raw) 1 (and-right (spanFits (spanOf (p .span))) (leb (p .raw) 1) e);
-      }
+fit-ident : (p : RawIdent) → fields (identRaw p) ≡ true → indices (identRaw p) ≡ true → IdentReady p
+fit-ident p e f =
+    let s : Span = spanOf (p .span) in
+    record {
+      span = span-ready s (and-left (spanFits s) (leb (p .raw) 1) e) (and-left (partFits s) (symbolFits (p .symbol)) f);
+      symbol = ltb-true (p .symbol) 536870912 (and-right (partFits s) (symbolFits (p .symbol)) f);
+      raw = leb-true (p .raw) 1 (and-right (spanFits s) (leb (p .raw) 1) e);
+    }
 
-module _ (p : RawLiteral) (e : fields (literalRaw p) ≡ true) (f : indices (literalRaw p) ≡ true) where
-  fit-literal : LiteralReady p
-  fit-literal =
-      let a = and₄ (spanFits (spanOf (p .span))) (leb (p .kind) 10) (if isRawKind (p .kind) then leb (p .«raw_count») 255 else eqb (p .«raw_count») 0) (leb (p .«suffix_len») 255) e in
-      record {
-        span = span-ready (spanOf (p .span)) (a .0) (and-left (partFits (spanOf (p .span))) (symbolFits (p .symbol)) f);
-        symbol = ltb-true (p .symbol) 536870912 (and-right (partFits (spanOf (p .span))) (symbolFits (p .symbol)) f);
-        kind = leb-true (p .kind) 10 (a .1);
-        count = count-255 (p .«raw_count») (isRawKind (p .kind)) (a .2);
-        suffix = leb-true (p .«suffix_len») 255 (a .3);
-      }
+fit-literal : (p : RawLiteral) → fields (literalRaw p) ≡ true → indices (literalRaw p) ≡ true → LiteralReady p
+fit-literal p e f =
+    let s : Span = spanOf (p .span) in
+    let a = and₄ (spanFits s) (leb (p .kind) 10) (if isRawKind (p .kind) then leb (p .«raw_count») 255 else eqb (p .«raw_count») 0) (leb (p .«suffix_len») 255) e in
+    record {
+      span = span-ready s (a .0) (and-left (partFits s) (symbolFits (p .symbol)) f);
+      symbol = ltb-true (p .symbol) 536870912 (and-right (partFits s) (symbolFits (p .symbol)) f);
+      kind = leb-true (p .kind) 10 (a .1);
+      count = count-255 (p .«raw_count») (isRawKind (p .kind)) (a .2);
+      suffix = leb-true (p .«suffix_len») 255 (a .3);
+    }
 
-module _ (p : RawSubtree) (e : fields (subtreeRaw p) ≡ true) (f : indices (subtreeRaw p) ≡ true) where
-  fit-subtree : SubtreeReady p
-  fit-subtree =
-      let a = and₃ (spanFits (spanOf (p .opening))) (spanFits (spanOf (p .closing))) (leb (p .kind) 3) e in
-      record {
-        opening = span-ready (spanOf (p .opening)) (a .0) (and-left (partFits (spanOf (p .opening))) (partFits (spanOf (p .closing))) f);
-        closing = span-ready (spanOf (p .closing)) (a .1) (and-right (partFits (spanOf (p .opening))) (partFits (spanOf (p .closing))) f);
-        kind = leb-true (p .kind) 3 (a .2);
-      }
+fit-subtree : (p : RawSubtree) → fields (subtreeRaw p) ≡ true → indices (subtreeRaw p) ≡ true → SubtreeReady p
+fit-subtree p e f =
+    let s : Span = spanOf (p .opening) in
+    let t : Span = spanOf (p .closing) in
+    let a = and₃ (spanFits s) (spanFits t) (leb (p .kind) 3) e in
+    record {
+      opening = span-ready s (a .0) (and-left (partFits s) (partFits t) f);
+      closing = span-ready t (a .1) (and-right (partFits s) (partFits t) f);
+      kind = leb-true (p .kind) 3 (a .2);
+    }
 
 -- a tree below the root
 module _ (b : List ℕ) (at kids : ℕ) (tree : RawTree) (e : packTree b at 1 (rawOf tree) kids ≡ passed) where
