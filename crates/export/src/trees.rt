@@ -1,4 +1,5 @@
 // One tree, by its list words and its indices.
+use crate::packing::code_of;
 use encode::encode::encode;
 use encode::encode::encode_top_subtree;
 use pack::span::PackedSpan;
@@ -7,7 +8,6 @@ use tree::raw::Descendants;
 use tree::raw::RawSubtree;
 use tree::words::raw_from_words;
 use tree::words::word_fields;
-use crate::packing::code_of;
 ghost use mathlib.Core.Path.{_≡_};
 ghost use Rattle.export.specs.Code.{TreeStored, RootStored};
 

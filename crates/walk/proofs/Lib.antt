@@ -1,0 +1,3 @@
+pub mod SizesReturns
+pub mod WalkWords
+pub mod WalkReturns

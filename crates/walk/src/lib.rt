@@ -1,0 +1,3 @@
+// Walks over a buffer, tree by tree or past whole subtrees, and the last span of what a walk has left.
+pub mod sizes;
+pub mod walk;
