@@ -1,3 +1,4 @@
 pub mod SizesReturns
 pub mod WalkWords
 pub mod WalkReturns
+pub mod LastReturns

@@ -173,13 +173,13 @@ pub ruleset walk-cases = (refuse-is, none-is, onward-is, row-sizes, row-place, r
 
 -- ---- past a tree
 
-leaf-flat : (l : Leaf) → treeShape .isSub (trees.Leaf l) ≡ false
+pub leaf-flat : (l : Leaf) → treeShape .isSub (trees.Leaf l) ≡ false
 unfolding treeWordsOf
 leaf-flat (leaves.Punct p) = refl
 leaf-flat (leaves.Ident p) = refl
 leaf-flat (leaves.Literal p) = refl
 
-subtree-holds : (p : Subtree) → (treeShape .isSub (trees.Subtree p) ≡ true) × (treeShape .count (trees.Subtree p) ≡ p .len .0)
+pub subtree-holds : (p : Subtree) → (treeShape .isSub (trees.Subtree p) ≡ true) × (treeShape .count (trees.Subtree p) ≡ p .len .0)
 unfolding treeWordsOf
 subtree-holds p = (refl, refl)
 
