@@ -1,1 +1,2 @@
 pub mod OpenReturns
+pub mod PlanReturns

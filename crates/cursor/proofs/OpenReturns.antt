@@ -13,10 +13,6 @@ use Rattle.walk.specs.Source.{sizes, treeShape, treeReader}
 use Rattle.cursor.specs.Open.{opened, cursorOf, cursorRow, closes, inside}
 use Rattle.cursor.specs.declared.open.At.{At}
 
--- one less and one more
-again : (d : ℕ) → 0 < d → suc (d - 1) ≡ d
-again d h = omega arith
-
 pub opened-length : (ns cs ps : List ℕ) (d : ℕ) → length (opened ns cs ps d) ≡ d
 unfolding opened
 opened-length ns cs ps zero = refl
@@ -26,10 +22,10 @@ opened-length ns cs ps (suc d) = ap suc (opened-length ns cs ps d)
 
 module _ (ns cs ps : List ℕ) where
   -- the one of this index
-  abbrev lastOf : ℕ → Open
+  abbrev pub lastOf : ℕ → Open
   lastOf i = record { number = getD ns i 0; count = getD cs i 0; place = getD ps i 0 }
 
-  opened-last : (d : ℕ) → 0 < d → opened ns cs ps d ≡ lastOf (d - 1) ∷ opened ns cs ps (d - 1)
+  pub opened-last : (d : ℕ) → 0 < d → opened ns cs ps d ≡ lastOf (d - 1) ∷ opened ns cs ps (d - 1)
   unfolding opened
   opened-last zero h = absurd (omega arith)
   opened-last (suc d) h = let e : suc d - 1 ≡ d = omega arith in rw e
