@@ -1,2 +1,4 @@
 pub mod OpenReturns
 pub mod PlanReturns
+pub mod CursorWords
+pub mod MovesReturns

@@ -1,3 +1,5 @@
 // The cursor: a walk that knows which subtrees are open. By value, and over lent arrays.
+pub mod cursor;
+pub mod lent;
 pub mod open;
 pub mod plan;
