@@ -2,3 +2,4 @@ pub mod OpenReturns
 pub mod PlanReturns
 pub mod CursorWords
 pub mod MovesReturns
+pub mod LookReturns

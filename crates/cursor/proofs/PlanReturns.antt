@@ -184,7 +184,7 @@ pub ruleset shut-cases = (shut-leaf, shut-other, shut-same, last-refused, last-g
 -- ---- rows 1 and 10, and the calls
 
 module _ (R : Reader TokenTree) (c : Cursor) (row : ℕ) (e : row ≡ cursorRow R c) where
-  row-stops : (call : CursorCall) → (row ≡ 0 → ⊥) → (refused row 0, c) ≡ cursorStep treeShape R call c
+  pub row-stops : (call : CursorCall) → (row ≡ 0 → ⊥) → (refused row 0, c) ≡ cursorStep treeShape R call c
   unfolding cursorRow cursorStep
   row-stops call h = go _ _ refl refl
     where

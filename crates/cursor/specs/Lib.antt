@@ -1,3 +1,4 @@
 pub mod Open
 pub mod Plan
 pub mod Moves
+pub mod Look

@@ -1,4 +1,7 @@
 // The cursor by value: every step takes it and hands back the next.
+use crate::look::TwoLeaves;
+use crate::look::peek_two_leaves;
+use crate::look::token_tree;
 use crate::open::At;
 use crate::plan::Answer;
 use crate::plan::Change;
@@ -11,6 +14,7 @@ ghost use Prim.Native.Nat.{_+_, _<_};
 ghost use Rattle.format.specs.Cursor.{bump, end, bumpOrEnd};
 ghost use Rattle.cursor.specs.Plan.{May};
 ghost use Rattle.cursor.specs.declared.plan.Change.the-variants as changes;
+ghost use Rattle.cursor.specs.Look.{Tells, Peeks};
 ghost use Rattle.cursor.specs.Moves.{atOf, freshCursor, Applied, Moves};
 
 // The entries below `depth` are the open subtrees.
@@ -128,5 +132,17 @@ impl Cursor {
             answer: answer,
             cursor: next,
         }
+    }
+
+    pub fn token_tree(self, b: &[u8], trees: u32, parts: &[u32], symbols: &[u32]) -> Answer
+        ensures { λ r. ⌜ Tells (now (b .entry)) trees (now (parts .entry)) (now (symbols .entry)) (atOf self) (self .numbers) (self .counts) (self .places) r ⌝ }
+    {
+        token_tree(b, trees, parts, symbols, self.at(), &self.numbers, &self.counts, &self.places)
+    }
+
+    pub fn peek_two_leaves(self, b: &[u8], trees: u32, parts: &[u32], symbols: &[u32]) -> TwoLeaves
+        ensures { λ r. ⌜ Peeks (now (b .entry)) trees (now (parts .entry)) (now (symbols .entry)) (atOf self) (self .numbers) (self .counts) (self .places) r ⌝ }
+    {
+        peek_two_leaves(b, trees, parts, symbols, self.at(), &self.numbers, &self.counts, &self.places)
     }
 }
