@@ -3,3 +3,4 @@ pub mod PlanReturns
 pub mod CursorWords
 pub mod MovesReturns
 pub mod LookReturns
+pub mod CursorRule

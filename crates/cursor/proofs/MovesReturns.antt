@@ -6,7 +6,10 @@ use mathlib.Core.List.{List, [], _∷_}
 use native.Mathlib.Omega.{arith}
 use borrow.Author.Tests.{eq-eqb, ne-eqb}
 use lib.Dec.{eqb}
-use lib.ListN.{length, set, drop}
+use lib.ListN.{length, getD, set, drop}
+use lib.Seq.{getD-set-same, getD-set-other}
+use native.Mathlib.Numerals.{add-one}
+use mathlib.Core.Logic.{_≢_}
 use Rattle.format.specs.Test.{if_then_else_}
 use Rattle.format.specs.Cursor as calls
 use Rattle.format.specs.Cursor.{Open, CursorCall, cursorStep}
@@ -14,7 +17,7 @@ use Rattle.format.specs.Buffer.{wordShape, ownReader}
 use Rattle.walk.specs.Source.{treeShape, treeReader, answerWords}
 use Rattle.cursor.specs.Open.{opened, cursorOf}
 use Rattle.cursor.specs.Plan.{answerOf, changed, planOf, May, Planned}
-use Rattle.cursor.specs.Moves.{atOf, written, stateOf, Moves, moved, stored, countIn, Applied}
+use Rattle.cursor.specs.Moves.{atOf, written, stateOf, Arrays, Moves, moved, stored, countIn, Applied}
 use Rattle.cursor.specs.declared.open.At.{At}
 use Rattle.cursor.specs.declared.plan.Change.{Change}
 use Rattle.cursor.specs.declared.plan.Change.the-variants as changes
@@ -94,13 +97,13 @@ pub ruleset next-cases = (apply-on, apply-shut, enter-is, next-on, next-open, ne
 
 -- ---- the arrays, by the open subtrees
 
+below : (m n : ℕ) → m ≡ n → suc m ≤ n → ⊥
+below m n q h = omega arith
+
 kept : (f : Open → ℕ) (a : List ℕ) (d : ℕ) (os : List Open) → length os ≤ d → a ≡ written f a d os
 unfolding written
 kept f a d [] h = refl
 kept f a d (o ∷ os) h = let e : eqb (length os) d ≡ false = ne-eqb (length os) d (λ q. below (length os) d q h) in simp e
-  where
-    below : (m n : ℕ) → m ≡ n → suc m ≤ n → ⊥
-    below m n q h = omega arith
 
 drop-one : (os : List Open) → length (drop 1 os) ≡ length os - 1
 drop-one [] = refl
@@ -127,6 +130,40 @@ module _ (c : At) (ns cs ps : List ℕ) where
   array-is f a (changes.Open o) = let e : eqb (length (opened ns cs ps (c .depth))) (c .depth) ≡ true = eq-eqb _ _ size in simp e
   array-is f a changes.Shut = kept f a (c .depth) (drop 1 (opened ns cs ps (c .depth))) (omega (arith, size, drop-one (opened ns cs ps (c .depth))))
 
+-- ---- the open subtrees, by the arrays
+
+module _ (ns cs ps : List ℕ) (d x y z : ℕ) where
+  opened-under : (m : ℕ) → m ≤ d → opened (set ns d x) (set cs d y) (set ps d z) m ≡ opened ns cs ps m
+  unfolding opened
+  opened-under zero h = refl
+  opened-under (suc m) h =
+      let n : m ≢ d = λ q. below m d q h in
+      let r = opened-under m (omega arith) in
+      rw (getD-set-other ns d m x 0 n, getD-set-other cs d m y 0 n, getD-set-other ps d m z 0 n, r)
+
+  opened-set : d < length ns → d < length cs → d < length ps → opened (set ns d x) (set cs d y) (set ps d z) (d + 1) ≡ record { number = x; count = y; place = z } ∷ opened ns cs ps d
+  unfolding opened
+  opened-set f g h = rw (add-one d, getD-set-same ns d x 0 f, getD-set-same cs d y 0 g, getD-set-same ps d z 0 h, opened-under d (omega arith))
+
+opened-drop : (ns cs ps : List ℕ) (d : ℕ) → opened ns cs ps (d - 1) ≡ drop 1 (opened ns cs ps d)
+unfolding opened
+opened-drop ns cs ps zero = refl
+opened-drop ns cs ps (suc d) = let e : suc d - 1 ≡ d = omega arith in rw e
+
+next-is : (c : At) (ns cs ps : List ℕ) (change : Change) → May c change → Arrays ns cs ps
+    → cursorOf (moved change c) (stored change ns (c .depth) (c .number)) (stored change cs (c .depth) (countIn change)) (stored change ps (c .depth) (c .place)) ≡ changed change (cursorOf c ns cs ps)
+unfolding moved stored countIn changed May
+next-is c ns cs ps changes.Stay m a = refl
+next-is c ns cs ps (changes.On next) m a = refl
+next-is c ns cs ps (changes.Open o) m a =
+    let f = m .1 in
+    let l₁ = a .numbers in
+    let l₂ = a .counts in
+    let l₃ = a .places in
+    let e = opened-set ns cs ps (c .depth) (c .number) (o .count .0) (c .place) (omega arith) (omega arith) (omega arith) in
+    rw e
+next-is c ns cs ps changes.Shut m a = rw (opened-drop ns cs ps (c .depth))
+
 module _ (b parts symbols : List ℕ) (k : ℕ) (call : CursorCall) (c : At) (ns cs ps : List ℕ) (p : Plan) (e : Planned b k parts symbols call c ns cs ps p) where
   pub moves-may : May c (p .change)
   moves-may = e .may
@@ -142,6 +179,9 @@ module _ (b parts symbols : List ℕ) (k : ℕ) (call : CursorCall) (c : At) (ns
         numbers = h .numbers ∙ array-is c ns cs ps (λ o. o .number) ns (p .change) ∙ ap (λ (x : calls.Cursor). written (λ o. o .number) ns (c .depth) (x .opened)) s;
         counts = h .counts ∙ array-is c ns cs ps (λ o. o .count) cs (p .change) ∙ ap (λ (x : calls.Cursor). written (λ o. o .count) cs (c .depth) (x .opened)) s;
         places = h .places ∙ array-is c ns cs ps (λ o. o .place) ps (p .change) ∙ ap (λ (x : calls.Cursor). written (λ o. o .place) ps (c .depth) (x .opened)) s;
+        next = λ full.
+            (λ i. cursorOf (h .state i) (h .numbers i) (h .counts i) (h .places i))
+            ∙ next-is c ns cs ps (p .change) (e .may) full ∙ s;
       }
 
 pub ruleset moves-cases = (moves-may, moves-is)

@@ -65,7 +65,7 @@ module _ (ns cs ps : List ℕ) where
           nested-on u =
               let v : leb t (after (lastOf (d - 1))) ≡ true = le-leb t (after (lastOf (d - 1))) (omega arith) in
               let q : nestedIn n₀ p₀ n₀ (opened ns cs ps d₀) ≡ nestedIn (getD ns (d - 1) 0) (getD ps (d - 1) 0) (after (lastOf (d - 1))) (opened ns cs ps (d - 1))
-                  = nested-last ∙ simp (lt-ltb _ _ x, lt-ltb _ _ y, v) in
+              = nested-last ∙ simp (lt-ltb _ _ x, lt-ltb _ _ y, v) in
               ap (λ (x : ℕ). nestedIn n₀ p₀ x (opened ns cs ps d₀)) z ∙ q ∙ ap (λ (x : ℕ). nestedIn (getD ns (d - 1) 0) (getD ps (d - 1) 0) x (opened ns cs ps (d - 1))) (sym w)
 
 pub ruleset nested-cases = (nested-all, nested-number, nested-place, nested-end, nested-on)

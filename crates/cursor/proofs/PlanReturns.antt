@@ -155,7 +155,7 @@ module _ (b parts symbols : List ℕ) (c : At) (ns cs ps : List ℕ) (h : 0 < c 
       ≡ shut treeShape (treeReader b k parts symbols) (cursorOf c ns cs ps) lastOpen (opened ns cs ps (c .depth - 1)) z
   lasts k z e =
       let d : treeReader b k parts symbols .read (getD ns (c .depth - 1) 0) (getD ps (c .depth - 1) 0) ≡ z
-          = reads-decoded b k parts symbols (getD ns (c .depth - 1) 0) (getD ps (c .depth - 1) 0) ∙ e in
+      = reads-decoded b k parts symbols (getD ns (c .depth - 1) 0) (getD ps (c .depth - 1) 0) ∙ e in
       ap (shutLast treeShape (treeReader b k parts symbols) (cursorOf c ns cs ps)) (opened-last ns cs ps (c .depth) h)
       ∙ ap (shut treeShape (treeReader b k parts symbols) (cursorOf c ns cs ps) lastOpen (opened ns cs ps (c .depth - 1))) d
 

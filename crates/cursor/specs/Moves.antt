@@ -41,6 +41,12 @@ written f a d (o ∷ os) = if eqb (length os) d then set a d (f o) else a
 abbrev pub stateOf : calls.Cursor → At
 stateOf c = record { place = c .place; number = c .number; depth = length (c .opened) }
 
+-- "`Vec` stacks: arrays of 256"
+pub record Arrays (ns cs ps : List ℕ) : Type 0 where
+  pub numbers : length ns ≡ 256
+  pub counts : length cs ≡ 256
+  pub places : length ps ≡ 256
+
 -- the answer: the one tree that the tables give, and by list words what the definitions' reader reads; the next state and all of the arrays
 pub record Moves (b : List ℕ) (k : ℕ) (parts symbols : List ℕ) (call : CursorCall) (c : At) (ns cs ps : List ℕ)
     (answer : Answer) (c′ : At) (ns′ cs′ ps′ : List ℕ) : Type 0 where
@@ -50,6 +56,8 @@ pub record Moves (b : List ℕ) (k : ℕ) (parts symbols : List ℕ) (call : Cur
   pub numbers : ns′ ≡ written (λ o. o .number) ns (c .depth) (cursorStep wordShape (ownReader b k parts symbols) call (cursorOf c ns cs ps) .1 .opened)
   pub counts : cs′ ≡ written (λ o. o .count) cs (c .depth) (cursorStep wordShape (ownReader b k parts symbols) call (cursorOf c ns cs ps) .1 .opened)
   pub places : ps′ ≡ written (λ o. o .place) ps (c .depth) (cursorStep wordShape (ownReader b k parts symbols) call (cursorOf c ns cs ps) .1 .opened)
+  -- so that the next cursor is the definition's
+  pub next : Arrays ns cs ps → cursorOf c′ ns′ cs′ ps′ ≡ cursorStep wordShape (ownReader b k parts symbols) call (cursorOf c ns cs ps) .1
 
 -- ---- a change carried out
 

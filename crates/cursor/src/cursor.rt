@@ -98,7 +98,16 @@ impl Cursor {
     pub fn bump(self, b: &[u8], trees: u32, parts: &[u32], symbols: &[u32]) -> Next
         ensures { λ r. ⌜ Moves (now (b .entry)) trees (now (parts .entry)) (now (symbols .entry)) bump (atOf self) (self .numbers) (self .counts) (self .places) (r .answer) (atOf (r .cursor)) (r .cursor .numbers) (r .cursor .counts) (r .cursor .places) ⌝ }
     {
-        let plan = plan_bump(b, trees, parts, symbols, self.at(), &self.numbers, &self.counts, &self.places);
+        let plan = plan_bump(
+            b,
+            trees,
+            parts,
+            symbols,
+            self.at(),
+            &self.numbers,
+            &self.counts,
+            &self.places,
+        );
         let answer = plan.answer;
         let change = plan.change;
         let next = self.apply(change);
@@ -111,7 +120,16 @@ impl Cursor {
     pub fn end(self, b: &[u8], trees: u32, parts: &[u32], symbols: &[u32]) -> Next
         ensures { λ r. ⌜ Moves (now (b .entry)) trees (now (parts .entry)) (now (symbols .entry)) end (atOf self) (self .numbers) (self .counts) (self .places) (r .answer) (atOf (r .cursor)) (r .cursor .numbers) (r .cursor .counts) (r .cursor .places) ⌝ }
     {
-        let plan = plan_end(b, trees, parts, symbols, self.at(), &self.numbers, &self.counts, &self.places);
+        let plan = plan_end(
+            b,
+            trees,
+            parts,
+            symbols,
+            self.at(),
+            &self.numbers,
+            &self.counts,
+            &self.places,
+        );
         let answer = plan.answer;
         let change = plan.change;
         let next = self.apply(change);
@@ -124,7 +142,16 @@ impl Cursor {
     pub fn bump_or_end(self, b: &[u8], trees: u32, parts: &[u32], symbols: &[u32]) -> Next
         ensures { λ r. ⌜ Moves (now (b .entry)) trees (now (parts .entry)) (now (symbols .entry)) bumpOrEnd (atOf self) (self .numbers) (self .counts) (self .places) (r .answer) (atOf (r .cursor)) (r .cursor .numbers) (r .cursor .counts) (r .cursor .places) ⌝ }
     {
-        let plan = plan_bump_or_end(b, trees, parts, symbols, self.at(), &self.numbers, &self.counts, &self.places);
+        let plan = plan_bump_or_end(
+            b,
+            trees,
+            parts,
+            symbols,
+            self.at(),
+            &self.numbers,
+            &self.counts,
+            &self.places,
+        );
         let answer = plan.answer;
         let change = plan.change;
         let next = self.apply(change);
@@ -137,12 +164,30 @@ impl Cursor {
     pub fn token_tree(self, b: &[u8], trees: u32, parts: &[u32], symbols: &[u32]) -> Answer
         ensures { λ r. ⌜ Tells (now (b .entry)) trees (now (parts .entry)) (now (symbols .entry)) (atOf self) (self .numbers) (self .counts) (self .places) r ⌝ }
     {
-        token_tree(b, trees, parts, symbols, self.at(), &self.numbers, &self.counts, &self.places)
+        token_tree(
+            b,
+            trees,
+            parts,
+            symbols,
+            self.at(),
+            &self.numbers,
+            &self.counts,
+            &self.places,
+        )
     }
 
     pub fn peek_two_leaves(self, b: &[u8], trees: u32, parts: &[u32], symbols: &[u32]) -> TwoLeaves
         ensures { λ r. ⌜ Peeks (now (b .entry)) trees (now (parts .entry)) (now (symbols .entry)) (atOf self) (self .numbers) (self .counts) (self .places) r ⌝ }
     {
-        peek_two_leaves(b, trees, parts, symbols, self.at(), &self.numbers, &self.counts, &self.places)
+        peek_two_leaves(
+            b,
+            trees,
+            parts,
+            symbols,
+            self.at(),
+            &self.numbers,
+            &self.counts,
+            &self.places,
+        )
     }
 }

@@ -106,7 +106,14 @@ fn no_leaves(otherwise: Answer) -> TwoLeaves
 }
 
 // The second leaf, behind the tree of this number.
-fn second(b: &[u8], parts: &[u32], symbols: &[u32], number: u32, place: usize, near: Leaf) -> TwoLeaves
+fn second(
+    b: &[u8],
+    parts: &[u32],
+    symbols: &[u32],
+    number: u32,
+    place: usize,
+    near: Leaf,
+) -> TwoLeaves
     requires { ⌜ number + 1 < 4294967296 ⌝ }
     ensures { λ r. ⌜ Second (now (b .entry)) (now (parts .entry)) (now (symbols .entry)) number place near r ⌝ }
 {

@@ -32,7 +32,12 @@ fn end_of(number: u32, count: u32) -> u64
 }
 
 // Whether each begins before the cursor, ends at or after it, and lies in the one before.
-fn nested<'a>(at: At, numbers: &'a [u32; 256], counts: &'a [u32; 256], places: &'a [usize; 256]) -> bool
+fn nested<'a>(
+    at: At,
+    numbers: &'a [u32; 256],
+    counts: &'a [u32; 256],
+    places: &'a [usize; 256],
+) -> bool
     requires { ⌜ at .depth ≤ 256 ⌝ }
     ensures { λ r. ⌜ r ≡ nestedIn (at .number) (at .place) (at .number)
         (opened (now (numbers .entry)) (now (counts .entry)) (now (places .entry)) (at .depth)) ⌝ }

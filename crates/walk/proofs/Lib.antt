@@ -2,3 +2,4 @@ pub mod SizesReturns
 pub mod WalkWords
 pub mod WalkReturns
 pub mod LastReturns
+pub mod WalkRule
