@@ -1,0 +1,203 @@
+-- One law for each return of the calls that move the cursor, with premises as the code's tests and calls give them.
+use Prim.Native.Nat.{ℕ, zero, suc, _+_, _-_, _<_, _≤_}
+use mathlib.Core.Bool.{Bool, true, false}
+use mathlib.Core.Path.{_≡_, refl, sym, ap, _∙_, subst}
+use mathlib.Core.List.{List, [], _∷_}
+use native.Mathlib.Omega.{arith}
+use borrow.Author.Tests.{eq-eqb, ne-eqb}
+use lib.Dec.{eqb}
+use lib.ListN.{length, getD, set, drop}
+use lib.Seq.{getD-set-same, getD-set-other}
+use native.Mathlib.Numerals.{add-one}
+use mathlib.Core.Logic.{_≢_}
+use Rattle.format.specs.Test.{if_then_else_}
+use Rattle.format.specs.Cursor as calls
+use Rattle.format.specs.Cursor.{Open, CursorCall, cursorStep}
+use Rattle.format.specs.Buffer.{wordShape, ownReader}
+use Rattle.walk.specs.Source.{treeShape, treeReader, answerWords}
+use Rattle.cursor.specs.Open.{opened, cursorOf}
+use Rattle.cursor.specs.Plan.{answerOf, changed, planOf, May, Planned}
+use Rattle.cursor.specs.Moves.{atOf, written, stateOf, Arrays, Moves, moved, stored, countIn, Applied}
+use Rattle.cursor.specs.declared.open.At.{At}
+use Rattle.cursor.specs.declared.plan.Change.{Change}
+use Rattle.cursor.specs.declared.plan.Change.the-variants as changes
+use Rattle.cursor.specs.declared.plan.Opening.{Opening}
+use Rattle.cursor.specs.declared.plan.Plan.{Plan}
+use Rattle.cursor.specs.declared.cursor.Cursor.{Cursor}
+use Rattle.cursor.proofs.OpenReturns.{opened-length}
+use Rattle.cursor.proofs.CursorWords.{callWords, cursor-words}
+
+-- ---- a change carried out
+
+module _ (c : At) (change : Change) (ns cs ps : List ℕ) where
+  pub apply-stay : change ≡ changes.Stay → Applied c change ns cs ps c ns cs ps
+  unfolding moved stored countIn
+  apply-stay e = rw e (record { state = refl; numbers = refl; counts = refl; places = refl })
+
+  pub apply-on : (next : ℕ) → change ≡ changes.On next → Applied c change ns cs ps (record { place = next; number = c .number + 1; depth = c .depth }) ns cs ps
+  unfolding moved stored countIn
+  apply-on next e = rw e (record { state = refl; numbers = refl; counts = refl; places = refl })
+
+  pub apply-shut : change ≡ changes.Shut → Applied c change ns cs ps (record { place = c .place; number = c .number; depth = c .depth - 1 }) ns cs ps
+  unfolding moved stored countIn
+  apply-shut e = rw e (record { state = refl; numbers = refl; counts = refl; places = refl })
+
+  pub apply-enter : (o : Opening) (c′ : At) (ns′ cs′ ps′ : List ℕ) → change ≡ changes.Open o
+      → Applied c (changes.Open o) ns cs ps c′ ns′ cs′ ps′ → Applied c change ns cs ps c′ ns′ cs′ ps′
+  apply-enter o c′ ns′ cs′ ps′ e h = rw e h
+
+pub enter-is : (c : At) (ns cs ps : List ℕ) (o : Opening)
+    → Applied c (changes.Open o) ns cs ps (record { place = o .next; number = c .number + 1; depth = c .depth + 1 }) (set ns (c .depth) (c .number)) (set cs (c .depth) (o .count .0)) (set ps (c .depth) (c .place))
+unfolding moved stored countIn
+enter-is c ns cs ps o = record { state = refl; numbers = refl; counts = refl; places = refl }
+
+module _ (c : At) (change : Change) (m : May c change) where
+  pub may-on : (next : ℕ) → change ≡ changes.On next → c .number + 1 < 4294967296
+  unfolding May
+  may-on next e = subst (May c) e m
+
+  pub may-open : (o : Opening) → change ≡ changes.Open o → c .number + 1 < 4294967296
+  unfolding May
+  may-open o e = subst (May c) e m .0
+
+  pub may-deep : (o : Opening) → change ≡ changes.Open o → c .depth < 256
+  unfolding May
+  may-deep o e = subst (May c) e m .1
+
+  pub may-shut : change ≡ changes.Shut → 1 ≤ c .depth
+  unfolding May
+  may-shut e = let h : 0 < c .depth = subst (May c) e m in omega arith
+
+pub ruleset apply-cases = (apply-stay, apply-on, apply-shut, apply-enter, enter-is, may-on, may-open, may-deep, may-shut)
+
+-- the same of a cursor by value
+
+module _ (c : Cursor) (change : Change) (m : May (atOf c) change) where
+  pub next-on : (next : ℕ) → change ≡ changes.On next → c .number + 1 < 4294967296
+  next-on = may-on (atOf c) change m
+
+  pub next-open : (o : Opening) → change ≡ changes.Open o → c .number + 1 < 4294967296
+  next-open = may-open (atOf c) change m
+
+  pub next-deep : (o : Opening) → change ≡ changes.Open o → c .depth < 256
+  next-deep = may-deep (atOf c) change m
+
+  pub next-shut : change ≡ changes.Shut → 1 ≤ c .depth
+  next-shut = may-shut (atOf c) change m
+
+module _ (c : Cursor) (change : Change) where
+  pub next-stays : change ≡ changes.Stay → Applied (atOf c) change (c .numbers) (c .counts) (c .places) (atOf c) (c .numbers) (c .counts) (c .places)
+  next-stays = apply-stay (atOf c) change (c .numbers) (c .counts) (c .places)
+
+  pub next-enters : (o : Opening) (d : Cursor) → change ≡ changes.Open o → Applied (atOf c) (changes.Open o) (c .numbers) (c .counts) (c .places) (atOf d) (d .numbers) (d .counts) (d .places)
+      → Applied (atOf c) change (c .numbers) (c .counts) (c .places) (atOf d) (d .numbers) (d .counts) (d .places)
+  next-enters o d e h = rw e h
+
+pub ruleset next-cases = (apply-on, apply-shut, enter-is, next-on, next-open, next-deep, next-shut, next-stays, next-enters)
+
+-- ---- the arrays, by the open subtrees
+
+below : (m n : ℕ) → m ≡ n → suc m ≤ n → ⊥
+below m n q h = omega arith
+
+kept : (f : Open → ℕ) (a : List ℕ) (d : ℕ) (os : List Open) → length os ≤ d → a ≡ written f a d os
+unfolding written
+kept f a d [] h = refl
+kept f a d (o ∷ os) h = let e : eqb (length os) d ≡ false = ne-eqb (length os) d (λ q. below (length os) d q h) in simp e
+
+drop-one : (os : List Open) → length (drop 1 os) ≡ length os - 1
+drop-one [] = refl
+drop-one (o ∷ os) = let e : suc (length os) - 1 ≡ length os = omega arith in sym e
+
+module _ (c : At) (ns cs ps : List ℕ) where
+  size : length (opened ns cs ps (c .depth)) ≡ c .depth
+  size = opened-length ns cs ps (c .depth)
+
+  state-is : (change : Change) → moved change c ≡ stateOf (changed change (cursorOf c ns cs ps))
+  unfolding moved changed
+  state-is changes.Stay = rw size
+  state-is (changes.On next) = rw size
+  state-is (changes.Open o) = let e : c .depth + 1 ≡ suc (length (opened ns cs ps (c .depth))) = omega (arith, size) in rw e
+  state-is changes.Shut = let e : c .depth - 1 ≡ length (drop 1 (opened ns cs ps (c .depth))) = omega (arith, size, drop-one (opened ns cs ps (c .depth))) in rw e
+
+  abbrev newest : Change → Open
+  newest change = record { number = c .number; count = countIn change; place = c .place }
+
+  array-is : (f : Open → ℕ) (a : List ℕ) (change : Change) → stored change a (c .depth) (f (newest change)) ≡ written f a (c .depth) (changed change (cursorOf c ns cs ps) .opened)
+  unfolding stored changed countIn written
+  array-is f a changes.Stay = kept f a (c .depth) (opened ns cs ps (c .depth)) (omega (arith, size))
+  array-is f a (changes.On next) = kept f a (c .depth) (opened ns cs ps (c .depth)) (omega (arith, size))
+  array-is f a (changes.Open o) = let e : eqb (length (opened ns cs ps (c .depth))) (c .depth) ≡ true = eq-eqb _ _ size in simp e
+  array-is f a changes.Shut = kept f a (c .depth) (drop 1 (opened ns cs ps (c .depth))) (omega (arith, size, drop-one (opened ns cs ps (c .depth))))
+
+-- ---- the open subtrees, by the arrays
+
+module _ (ns cs ps : List ℕ) (d x y z : ℕ) where
+  opened-under : (m : ℕ) → m ≤ d → opened (set ns d x) (set cs d y) (set ps d z) m ≡ opened ns cs ps m
+  unfolding opened
+  opened-under zero h = refl
+  opened-under (suc m) h =
+      let n : m ≢ d = λ q. below m d q h in
+      let r = opened-under m (omega arith) in
+      rw (getD-set-other ns d m x 0 n, getD-set-other cs d m y 0 n, getD-set-other ps d m z 0 n, r)
+
+  opened-set : d < length ns → d < length cs → d < length ps → opened (set ns d x) (set cs d y) (set ps d z) (d + 1) ≡ record { number = x; count = y; place = z } ∷ opened ns cs ps d
+  unfolding opened
+  opened-set f g h = rw (add-one d, getD-set-same ns d x 0 f, getD-set-same cs d y 0 g, getD-set-same ps d z 0 h, opened-under d (omega arith))
+
+opened-drop : (ns cs ps : List ℕ) (d : ℕ) → opened ns cs ps (d - 1) ≡ drop 1 (opened ns cs ps d)
+unfolding opened
+opened-drop ns cs ps zero = refl
+opened-drop ns cs ps (suc d) = let e : suc d - 1 ≡ d = omega arith in rw e
+
+next-is : (c : At) (ns cs ps : List ℕ) (change : Change) → May c change → Arrays ns cs ps
+    → cursorOf (moved change c) (stored change ns (c .depth) (c .number)) (stored change cs (c .depth) (countIn change)) (stored change ps (c .depth) (c .place)) ≡ changed change (cursorOf c ns cs ps)
+unfolding moved stored countIn changed May
+next-is c ns cs ps changes.Stay m a = refl
+next-is c ns cs ps (changes.On next) m a = refl
+next-is c ns cs ps (changes.Open o) m a =
+    let f = m .1 in
+    let l₁ = a .numbers in
+    let l₂ = a .counts in
+    let l₃ = a .places in
+    let e = opened-set ns cs ps (c .depth) (c .number) (o .count .0) (c .place) (omega arith) (omega arith) (omega arith) in
+    rw e
+next-is c ns cs ps changes.Shut m a = rw (opened-drop ns cs ps (c .depth))
+
+module _ (b parts symbols : List ℕ) (k : ℕ) (call : CursorCall) (c : At) (ns cs ps : List ℕ) (p : Plan) (e : Planned b k parts symbols call c ns cs ps p) where
+  pub moves-may : May c (p .change)
+  moves-may = e .may
+
+  pub moves-is : (c′ : At) (ns′ cs′ ps′ : List ℕ) → Applied c (p .change) ns cs ps c′ ns′ cs′ ps′ → Moves b k parts symbols call c ns cs ps (p .answer) c′ ns′ cs′ ps′
+  moves-is c′ ns′ cs′ ps′ h =
+      let w : callWords (planOf p (cursorOf c ns cs ps)) ≡ cursorStep wordShape (ownReader b k parts symbols) call (cursorOf c ns cs ps) = ap callWords (e .step) ∙ cursor-words b k parts symbols call (cursorOf c ns cs ps) in
+      let s : changed (p .change) (cursorOf c ns cs ps) ≡ cursorStep wordShape (ownReader b k parts symbols) call (cursorOf c ns cs ps) .1 = ap (λ x. x .1) w in
+      record {
+        exact = ap (λ x. x .0) (e .step);
+        words = ap (λ x. x .0) w;
+        state = h .state ∙ state-is c ns cs ps (p .change) ∙ ap stateOf s;
+        numbers = h .numbers ∙ array-is c ns cs ps (λ o. o .number) ns (p .change) ∙ ap (λ (x : calls.Cursor). written (λ o. o .number) ns (c .depth) (x .opened)) s;
+        counts = h .counts ∙ array-is c ns cs ps (λ o. o .count) cs (p .change) ∙ ap (λ (x : calls.Cursor). written (λ o. o .count) cs (c .depth) (x .opened)) s;
+        places = h .places ∙ array-is c ns cs ps (λ o. o .place) ps (p .change) ∙ ap (λ (x : calls.Cursor). written (λ o. o .place) ps (c .depth) (x .opened)) s;
+        next = λ full.
+            (λ i. cursorOf (h .state i) (h .numbers i) (h .counts i) (h .places i))
+            ∙ next-is c ns cs ps (p .change) (e .may) full ∙ s;
+      }
+
+pub ruleset moves-cases = (moves-may, moves-is)
+
+-- a cursor by value, whose state was handed on
+
+module _ (b parts symbols : List ℕ) (k : ℕ) (call : CursorCall) (c : Cursor) (a : At) (q : a ≡ atOf c) (p : Plan)
+    (e : Planned b k parts symbols call a (c .numbers) (c .counts) (c .places) p) where
+  planned : Planned b k parts symbols call (atOf c) (c .numbers) (c .counts) (c .places) p
+  planned = subst (λ (x : At). Planned b k parts symbols call x (c .numbers) (c .counts) (c .places) p) q e
+
+  pub value-may : May (atOf c) (p .change)
+  value-may = planned .may
+
+  pub value-is : (d : Cursor) → Applied (atOf c) (p .change) (c .numbers) (c .counts) (c .places) (atOf d) (d .numbers) (d .counts) (d .places)
+      → Moves b k parts symbols call (atOf c) (c .numbers) (c .counts) (c .places) (p .answer) (atOf d) (d .numbers) (d .counts) (d .places)
+  value-is d h = moves-is b parts symbols k call (atOf c) (c .numbers) (c .counts) (c .places) p planned (atOf d) (d .numbers) (d .counts) (d .places) h
+
+pub ruleset value-cases = (value-may, value-is)

@@ -1,0 +1,293 @@
+-- One law for each return of the parts of a call, with premises as the code's tests and calls give them.
+use Prim.Native.Nat.{ℕ, zero, suc, _+_, _-_, _<_, _≤_}
+use mathlib.Core.Bool.{Bool, true, false, not, _&&_}
+use mathlib.Core.Path.{_≡_, refl, sym, ap, _∙_, subst}
+use mathlib.Core.List.{List, [], _∷_}
+use native.Mathlib.Omega.{arith}
+use borrow.Author.Tests.{le-leb, lt-leb, leb-true, lt-ltb, le-ltb, eq-eqb, ne-eqb, not-true, not-false}
+use lib.Dec.{leb, ltb, eqb}
+use lib.ListN.{length, getD, drop}
+use Rattle.format.specs.Test.{if_then_else_}
+use Rattle.format.specs.Reader.{Reader, Reply, got, bad, done, none, one, refused}
+use Rattle.format.specs.Cursor.{Open, Cursor, CursorCall, bump, end, bumpOrEnd, closing, cursorFits, bumped, goOn, shut, shutLast, dropLast, cursorCall, cursorStep, nestedIn}
+use Rattle.format.proofs.Each.{and-left, and-right, true-false}
+use Rattle.tree.specs.declared.types.TokenTree.{TokenTree}
+use Rattle.tree.specs.declared.types.TokenTree.the-variants as trees
+use Rattle.tree.specs.declared.types.Leaf.{Leaf}
+use Rattle.tree.specs.declared.types.Subtree.{Subtree}
+use Rattle.decode.specs.Decode.{treeAnswer, decodedAt}
+use Rattle.decode.specs.declared.decode.TreeAt.{TreeAt}
+use Rattle.decode.specs.declared.decode.TreeRead.{TreeRead}
+use Rattle.decode.specs.declared.decode.TreeRead.the-variants as reads
+use Rattle.decode.proofs.DecodeUse.{decoded-got, decoded-refused}
+use Rattle.walk.specs.Source.{treeShape, treeReader}
+use Rattle.walk.proofs.WalkWords.{reads-decoded}
+use Rattle.walk.proofs.WalkReturns.{leaf-flat, subtree-holds}
+use Rattle.cursor.specs.Open.{opened, cursorOf, cursorRow, closes}
+use Rattle.cursor.specs.Plan.{answerOf, changed, planOf, refusal, doing, May, cursorAt, Enters, GoesOn, Shuts, ShutsLast, Planned}
+use Rattle.cursor.specs.declared.open.At.{At}
+use Rattle.cursor.specs.declared.plan.Answer.the-variants as answers
+use Rattle.cursor.specs.declared.plan.Change.{Change}
+use Rattle.cursor.specs.declared.plan.Change.the-variants as changes
+use Rattle.cursor.specs.declared.plan.Plan.{Plan}
+use Rattle.cursor.proofs.OpenReturns.{opened-length, opened-last}
+
+-- ---- plans
+
+refused-plan : (r n : ℕ) (p : Plan) (c : Cursor) → p ≡ refusal r n → planOf p c ≡ (refused r n, c)
+unfolding answerOf changed
+refused-plan r n p c e = rw e
+
+refused-may : (r n : ℕ) (p : Plan) (c : At) → p ≡ refusal r n → May c (p .change)
+unfolding May
+refused-may r n p c e = rw e tt
+
+module _ (y : TreeAt) (p : Subtree) (e : y .tree ≡ trees.Subtree p) where
+  holds : treeShape .isSub (y .tree) ≡ true
+  holds = ap (treeShape .isSub) e ∙ subtree-holds p .0
+
+  counts : treeShape .count (y .tree) ≡ p .len .0
+  counts = ap (treeShape .count) e ∙ subtree-holds p .1
+
+-- ---- over a leaf, into a subtree
+
+module _ (c : At) (y : TreeAt) (r : Plan) where
+  pub enter-leaf : (l : Leaf) → y .tree ≡ trees.Leaf l → c .number + 1 < 4294967296 → r ≡ doing (changes.On (y .next)) → Enters c y r
+  unfolding answerOf changed May
+  enter-leaf l e h q =
+      let d : treeShape .isSub (y .tree) ≡ false = ap (treeShape .isSub) e ∙ leaf-flat l in
+      record { step = λ R os f. rw q (simp d); may = rw q h }
+
+  module _ (p : Subtree) (e : y .tree ≡ trees.Subtree p) where
+    pub enter-deep : 256 ≤ c .depth → r ≡ refusal 4 (c .number) → Enters c y r
+    enter-deep h q =
+        record {
+          step = λ R os f.
+              let g : leb 256 (length os) ≡ true = ap (leb 256) f ∙ le-leb _ _ h in
+              refused-plan 4 (c .number) r (cursorAt c os) q ∙ simp (holds y p e, g);
+          may = refused-may 4 (c .number) r c q;
+        }
+
+    pub enter-open : c .depth < 256 → c .number + 1 < 4294967296 → r ≡ doing (changes.Open (record { count = p .len; next = y .next })) → Enters c y r
+    unfolding answerOf changed May
+    enter-open h i q =
+        record {
+          step = λ R os f.
+              let g : leb 256 (length os) ≡ false = ap (leb 256) f ∙ lt-leb _ _ h in
+              rw q (simp (holds y p e, counts y p e, g));
+          may = rw q (i, h);
+        }
+
+pub ruleset enter-cases = (enter-leaf, enter-deep, enter-open)
+
+-- ---- to the next tree
+
+module _ (b parts symbols : List ℕ) (k : ℕ) (c : At) (p : Plan) where
+  pub go-end : k ≤ c .number → p ≡ doing changes.Stay → GoesOn b k parts symbols c p
+  unfolding answerOf changed May treeReader
+  go-end h q = record { step = λ os f. rw q (simp (le-leb _ _ h)); may = rw q tt }
+
+  module _ (h : c .number < k) (r : TreeRead) (f : r ≡ treeAnswer (decodedAt b parts symbols (c .number) (c .place))) where
+    before : leb (treeReader b k parts symbols .trees) (c .number) ≡ false
+    unfolding treeReader
+    before = lt-leb _ _ h
+
+    goes : (z : Reply TokenTree) → decodedAt b parts symbols (c .number) (c .place) ≡ z → (os : List Open)
+        → goOn treeShape (treeReader b k parts symbols) (cursorAt c os) ≡ bumped treeShape (treeReader b k parts symbols) (cursorAt c os) z
+    goes z e os =
+        let g = before in
+        let d : treeReader b k parts symbols .read (c .number) (c .place) ≡ z = reads-decoded b k parts symbols (c .number) (c .place) ∙ e in
+        simp (g, d)
+
+    pub go-refused : (i : ℕ) → r ≡ reads.Refused i → p ≡ refusal i (c .number) → GoesOn b k parts symbols c p
+    go-refused i g q =
+        let d = decoded-refused (decodedAt b parts symbols (c .number) (c .place)) r f i g in
+        record {
+          step = λ os e. refused-plan i (c .number) p (cursorAt c os) q ∙ sym (goes (bad i) d os);
+          may = refused-may i (c .number) p c q;
+        }
+
+    pub go-got : (y : TreeAt) → r ≡ reads.Got y → Enters c y p → GoesOn b k parts symbols c p
+    go-got y g n =
+        let d = decoded-got (decodedAt b parts symbols (c .number) (c .place)) r f y g in
+        record {
+          step = λ os e. n .step (treeReader b k parts symbols) os e ∙ sym (goes (got (y .tree) (y .next) (y .children .0)) d os);
+          may = n .may;
+        }
+
+pub ruleset go-cases = (go-end, go-refused, go-got)
+
+-- ---- the last open subtree
+
+module _ (y : TreeAt) (count : ℕ) where
+  pub shut-leaf : (l : Leaf) (r : Plan) → y .tree ≡ trees.Leaf l → r ≡ refusal 10 0 → Shuts y count r
+  shut-leaf l r e q =
+      let d : treeShape .isSub (y .tree) ≡ false = ap (treeShape .isSub) e ∙ leaf-flat l in
+      record { step = λ R c o os f. refused-plan 10 0 r (cursorAt c (o ∷ os)) q ∙ simp d; may = λ c h. refused-may 10 0 r c q }
+
+  module _ (p : Subtree) (e : y .tree ≡ trees.Subtree p) where
+    pub shut-other : (p .len .0 ≡ count → ⊥) → (r : Plan) → r ≡ refusal 10 0 → Shuts y count r
+    shut-other h r q =
+        record {
+          step = λ R c o os f.
+              let g : p .len .0 ≡ o .count → ⊥ = λ x. h (x ∙ f) in
+              refused-plan 10 0 r (cursorAt c (o ∷ os)) q ∙ simp (holds y p e, counts y p e, ne-eqb _ _ g);
+          may = λ c h. refused-may 10 0 r c q;
+        }
+
+    pub shut-same : p .len .0 ≡ count → (t : TokenTree) → t ≡ trees.Subtree p → Shuts y count (record { answer = answers.Tree t; change = changes.Shut })
+    unfolding answerOf changed May
+    shut-same h t i =
+        record {
+          step = λ R c o os f.
+              let g : p .len .0 ≡ o .count = h ∙ sym f in
+              rw (i ∙ sym e) (simp (holds y p e, counts y p e, eq-eqb _ _ g));
+          may = λ c h. h;
+        }
+
+module _ (b parts symbols : List ℕ) (c : At) (ns cs ps : List ℕ) (h : 0 < c .depth) (p : Plan) (r : TreeRead)
+    (f : r ≡ treeAnswer (decodedAt b parts symbols (getD ns (c .depth - 1) 0) (getD ps (c .depth - 1) 0))) where
+  abbrev lastOpen : Open
+  lastOpen = record { number = getD ns (c .depth - 1) 0; count = getD cs (c .depth - 1) 0; place = getD ps (c .depth - 1) 0 }
+
+  lasts : (k : ℕ) (z : Reply TokenTree) → decodedAt b parts symbols (getD ns (c .depth - 1) 0) (getD ps (c .depth - 1) 0) ≡ z
+      → shutLast treeShape (treeReader b k parts symbols) (cursorOf c ns cs ps) (opened ns cs ps (c .depth))
+      ≡ shut treeShape (treeReader b k parts symbols) (cursorOf c ns cs ps) lastOpen (opened ns cs ps (c .depth - 1)) z
+  lasts k z e =
+      let d : treeReader b k parts symbols .read (getD ns (c .depth - 1) 0) (getD ps (c .depth - 1) 0) ≡ z
+      = reads-decoded b k parts symbols (getD ns (c .depth - 1) 0) (getD ps (c .depth - 1) 0) ∙ e in
+      ap (shutLast treeShape (treeReader b k parts symbols) (cursorOf c ns cs ps)) (opened-last ns cs ps (c .depth) h)
+      ∙ ap (shut treeShape (treeReader b k parts symbols) (cursorOf c ns cs ps) lastOpen (opened ns cs ps (c .depth - 1))) d
+
+  pub last-refused : (i : ℕ) → r ≡ reads.Refused i → p ≡ refusal i (getD ns (c .depth - 1) 0) → ShutsLast b parts symbols c ns cs ps p
+  last-refused i g q =
+      let d = decoded-refused (decodedAt b parts symbols (getD ns (c .depth - 1) 0) (getD ps (c .depth - 1) 0)) r f i g in
+      record {
+        step = λ k. refused-plan i (getD ns (c .depth - 1) 0) p (cursorOf c ns cs ps) q ∙ sym (lasts k (bad i) d);
+        may = refused-may i (getD ns (c .depth - 1) 0) p c q;
+      }
+
+  pub last-got : (y : TreeAt) → r ≡ reads.Got y → Shuts y (getD cs (c .depth - 1) 0) p → ShutsLast b parts symbols c ns cs ps p
+  last-got y g n =
+      let d = decoded-got (decodedAt b parts symbols (getD ns (c .depth - 1) 0) (getD ps (c .depth - 1) 0)) r f y g in
+      let o = opened-last ns cs ps (c .depth) h in
+      record {
+        step = λ k.
+            subst (λ (os : List Open). planOf p (cursorAt c os) ≡ shut treeShape (treeReader b k parts symbols) (cursorAt c os) lastOpen (opened ns cs ps (c .depth - 1)) (got (y .tree) (y .next) (y .children .0)))
+            (sym o) (n .step (treeReader b k parts symbols) c lastOpen (opened ns cs ps (c .depth - 1)) refl)
+            ∙ sym (lasts k (got (y .tree) (y .next) (y .children .0)) d);
+        may = n .may c h;
+      }
+
+pub ruleset shut-cases = (shut-leaf, shut-other, shut-same, last-refused, last-got)
+
+-- ---- rows 1 and 10, and the calls
+
+module _ (R : Reader TokenTree) (c : Cursor) (row : ℕ) (e : row ≡ cursorRow R c) where
+  pub row-stops : (call : CursorCall) → (row ≡ 0 → ⊥) → (refused row 0, c) ≡ cursorStep treeShape R call c
+  unfolding cursorRow cursorStep
+  row-stops call h = go _ _ refl refl
+    where
+      go : (x y : Bool) → R .sized ≡ x → cursorFits treeShape R c ≡ y → (refused row 0, c) ≡ cursorStep treeShape R call c
+      go false y f g = rw e (simp f)
+      go true false f g = rw e (simp (f, g))
+      go true true f g = let z : row ≡ 0 = e ∙ simp (f, g) in absurd (h z)
+
+  row-passes : row ≡ 0 → (R .sized ≡ true) × (cursorFits treeShape R c ≡ true)
+  unfolding cursorRow
+  row-passes h = go _ _ refl refl
+    where
+      go : (x y : Bool) → R .sized ≡ x → cursorFits treeShape R c ≡ y → (R .sized ≡ true) × (cursorFits treeShape R c ≡ true)
+      go false y f g = let q : cursorRow R c ≡ 0 = sym e ∙ h in let z : _≡_ {A = ℕ} 1 0 = simp f at q in absurd (omega arith)
+      go true false f g = let q : cursorRow R c ≡ 0 = sym e ∙ h in let z : _≡_ {A = ℕ} 10 0 = simp (f, g) at q in absurd (omega arith)
+      go true true f g = (f, g)
+
+  pub row-calls : row ≡ 0 → (call : CursorCall) → cursorStep treeShape R call c ≡ cursorCall treeShape R call c
+  unfolding cursorStep
+  row-calls h call = let q = row-passes h in simp (q .0, q .1)
+
+  row-few : row ≡ 0 → length (c .opened) ≤ 256
+  row-few h =
+      let n = nestedIn (c .number) (c .place) (c .number) (c .opened) in
+      let q = and-left (leb (c .number) (R .trees) && leb (c .place) (R .bytes) && leb (length (c .opened)) 256) n (row-passes h .1) in
+      leb-true (length (c .opened)) 256 (and-right (leb (c .number) (R .trees) && leb (c .place) (R .bytes)) (leb (length (c .opened)) 256) q)
+
+drop-last : (R : Reader TokenTree) (os : List Open) → drop 1 os ≡ dropLast treeShape R os
+drop-last R [] = refl
+drop-last R (o ∷ os) = refl
+
+closing-closes : (n : ℕ) (ns cs ps : List ℕ) (d : ℕ) → closing n (opened ns cs ps d) ≡ closes n ns cs d
+unfolding opened closes
+closing-closes n ns cs ps zero = refl
+closing-closes n ns cs ps (suc d) = refl
+
+module _ (b parts symbols : List ℕ) (k : ℕ) (c : At) (ns cs ps : List ℕ) (row : ℕ) (e : row ≡ cursorRow (treeReader b k parts symbols) (cursorOf c ns cs ps)) where
+  pub plan-row : (row ≡ 0 → ⊥) → (call : CursorCall) (p : Plan) → p ≡ refusal row 0 → Planned b k parts symbols call c ns cs ps p
+  plan-row h call p q =
+      record {
+        step = refused-plan row 0 p (cursorOf c ns cs ps) q ∙ row-stops (treeReader b k parts symbols) (cursorOf c ns cs ps) row e call h;
+        may = refused-may row 0 p c q;
+      }
+
+  module _ (h : row ≡ 0) where
+    pub plan-few : c .depth ≤ 256
+    plan-few =
+        let q = row-few (treeReader b k parts symbols) (cursorOf c ns cs ps) row e h in
+        let l = opened-length ns cs ps (c .depth) in
+        omega arith
+
+    called : (call : CursorCall) → cursorStep treeShape (treeReader b k parts symbols) call (cursorOf c ns cs ps) ≡ cursorCall treeShape (treeReader b k parts symbols) call (cursorOf c ns cs ps)
+    called = row-calls (treeReader b k parts symbols) (cursorOf c ns cs ps) row e h
+
+    module _ (x : Bool) (f : x ≡ closes (c .number) ns cs (c .depth)) where
+      is-closing : closing (c .number) (opened ns cs ps (c .depth)) ≡ x
+      is-closing = closing-closes (c .number) ns cs ps (c .depth) ∙ sym f
+
+      closes-some : x ≡ true → 0 < c .depth
+      unfolding closes
+      closes-some g = go (c .depth) (sym f ∙ g)
+        where
+          go : (d : ℕ) → closes (c .number) ns cs d ≡ true → 0 < d
+          go zero i = true-false false i refl
+          go (suc d) i = omega arith
+
+      refused-10 : (call : CursorCall) (p : Plan) → p ≡ refusal 10 0 → cursorCall treeShape (treeReader b k parts symbols) call (cursorOf c ns cs ps) ≡ (refused 10 0, cursorOf c ns cs ps)
+          → Planned b k parts symbols call c ns cs ps p
+      refused-10 call p q z = record { step = refused-plan 10 0 p (cursorOf c ns cs ps) q ∙ sym (called call ∙ z); may = refused-may 10 0 p c q }
+
+      goes-on : (call : CursorCall) (p : Plan) → GoesOn b k parts symbols c p
+          → cursorCall treeShape (treeReader b k parts symbols) call (cursorOf c ns cs ps) ≡ goOn treeShape (treeReader b k parts symbols) (cursorOf c ns cs ps)
+          → Planned b k parts symbols call c ns cs ps p
+      goes-on call p n z = record { step = n .step (opened ns cs ps (c .depth)) (opened-length ns cs ps (c .depth)) ∙ sym (called call ∙ z); may = n .may }
+
+      pub bump-closing : x ≡ true → (p : Plan) → p ≡ refusal 10 0 → Planned b k parts symbols bump c ns cs ps p
+      bump-closing g p q = let z = is-closing ∙ g in refused-10 bump p q (simp z)
+
+      pub bump-on : x ≡ false → (p : Plan) → GoesOn b k parts symbols c p → Planned b k parts symbols bump c ns cs ps p
+      bump-on g p n = let z = is-closing ∙ g in goes-on bump p n (simp z)
+
+      pub either-on : x ≡ false → (p : Plan) → GoesOn b k parts symbols c p → Planned b k parts symbols bumpOrEnd c ns cs ps p
+      either-on g p n = let z = is-closing ∙ g in goes-on bumpOrEnd p n (simp z)
+
+      pub either-shut : x ≡ true → (p : Plan) → p ≡ doing changes.Shut → Planned b k parts symbols bumpOrEnd c ns cs ps p
+      unfolding answerOf changed May
+      either-shut g p q =
+          let z = is-closing ∙ g in
+          let d = drop-last (treeReader b k parts symbols) (opened ns cs ps (c .depth)) in
+          let w : planOf p (cursorOf c ns cs ps) ≡ cursorCall treeShape (treeReader b k parts symbols) bumpOrEnd (cursorOf c ns cs ps) = rw q (simp (z, d)) in
+          record { step = w ∙ sym (called bumpOrEnd); may = rw q (closes-some g) }
+
+      pub end-open : not x ≡ true → (p : Plan) → p ≡ refusal 10 0 → Planned b k parts symbols end c ns cs ps p
+      end-open g p q = let z = is-closing ∙ not-true x g in refused-10 end p q (simp z)
+
+      module _ (g : not x ≡ false) where
+        pub end-some : 0 < c .depth
+        end-some = closes-some (not-false x g)
+
+        pub end-shut : (p : Plan) → ShutsLast b parts symbols c ns cs ps p → Planned b k parts symbols end c ns cs ps p
+        end-shut p n =
+            let z = is-closing ∙ not-false x g in
+            let w : cursorCall treeShape (treeReader b k parts symbols) end (cursorOf c ns cs ps) ≡ shutLast treeShape (treeReader b k parts symbols) (cursorOf c ns cs ps) (opened ns cs ps (c .depth)) = simp z in
+            record { step = n .step k ∙ sym (called end ∙ w); may = n .may }
+
+pub ruleset plan-cases = (plan-row, plan-few, bump-closing, bump-on, either-on, either-shut, end-open, end-some, end-shut)

@@ -1,0 +1,23 @@
+use borrow.Author.Needs.{needs}
+use Rattle.cursor.proofs.LookReturns.{value-looks}
+use Rattle.cursor.proofs.cursor.Cursor.peek_two_leaves.Statement.{statement}
+use Rattle.cursor.proofs.cursor.Cursor.peek_two_leaves.Tie as tie
+use Rattle.cursor.proofs.cursor.Cursor.peek_two_leaves.Reads as reads
+use Rattle.cursor.proofs.cursor.Cursor.peek_two_leaves.Lts as lts
+use Rattle.cursor.proofs.cursor.Cursor.at.Reads as at-reads
+use Rattle.cursor.proofs.look.peek_two_leaves.Reads as peek-two-leaves-reads
+
+-- src/cursor.rt:146:51
+at-requires : tie.Need-at-requires
+at-requires c κs = search (needs, value-looks)
+
+-- src/cursor.rt:146:9
+peek-two-leaves-requires : tie.Need-peek-two-leaves-requires
+peek-two-leaves-requires c κs = search (needs, value-looks)
+
+-- src/cursor.rt:143:5
+returns : tie.Need-returns
+returns c = search (needs, value-looks)
+
+pub peek-two-leaves-spec : {M : Type 1} → statement M
+peek-two-leaves-spec = tie.close (tie.spec at-requires peek-two-leaves-requires returns)

@@ -1,0 +1,18 @@
+use borrow.Author.Needs.{needs}
+use Rattle.cursor.proofs.LookReturns.{peeks-cases}
+use Rattle.cursor.proofs.look.no_leaves.Statement.{statement}
+use Rattle.cursor.proofs.look.no_leaves.Tie as tie
+use Rattle.cursor.proofs.look.no_leaves.Reads as reads
+use Rattle.cursor.proofs.look.no_leaves.Lts as lts
+use Rattle.cursor.proofs.look.blank.Reads as blank-reads
+
+-- src/look.rt:99:9
+blank-requires : tie.Need-blank-requires
+blank-requires c κs = search (needs, peeks-cases)
+
+-- src/look.rt:96:1
+returns : tie.Need-returns
+returns c = search (needs, peeks-cases)
+
+pub no-leaves-spec : {M : Type 1} → statement M
+no-leaves-spec = tie.close (tie.spec blank-requires returns)

@@ -1,0 +1,37 @@
+use borrow.Author.Needs.{needs}
+use Rattle.cursor.proofs.LookReturns.{tells-cases}
+use Rattle.cursor.proofs.look.tree_here.Statement.{statement}
+use Rattle.cursor.proofs.look.tree_here.Tie as tie
+use Rattle.cursor.proofs.look.tree_here.Reads as reads
+use Rattle.cursor.proofs.look.tree_here.Lts as lts
+use Rattle.cursor.proofs.look.refused.Reads as refused-reads
+use Rattle.decode.proofs.decode.decode.Reads as decode-reads
+
+-- src/look.rt:44:9
+decode-requires : tie.Need-decode-requires
+decode-requires c κs = search (needs, tells-cases)
+
+-- src/look.rt:46:27
+enum-known-read : tie.Need-enum-known-read
+enum-known-read c = search (needs, tells-cases)
+
+-- src/look.rt:46:38
+refused-requires : tie.Need-refused-requires
+refused-requires c κs = search (needs, tells-cases)
+
+-- src/look.rt:47:23
+enum-known-read-2 : tie.Need-enum-known-read-2
+enum-known-read-2 c = search (needs, tells-cases)
+
+-- src/look.rt:41:1
+returns : tie.Need-returns
+returns c = search (needs, tells-cases)
+
+-- src/look.rt:41:1
+returns-2 : tie.Need-returns-2
+returns-2 c = search (needs, tells-cases)
+
+pub tree-here-spec : {M : Type 1} → statement M
+tree-here-spec =
+    tie.close
+    (tie.spec decode-requires enum-known-read refused-requires enum-known-read-2 returns returns-2)

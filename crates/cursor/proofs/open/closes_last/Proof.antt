@@ -1,0 +1,63 @@
+use borrow.Author.Needs.{needs}
+use Rattle.cursor.proofs.OpenReturns.{last-cases}
+use Rattle.cursor.proofs.open.closes_last.Statement.{statement}
+use Rattle.cursor.proofs.open.closes_last.Tie as tie
+use Rattle.cursor.proofs.open.closes_last.Reads as reads
+use Rattle.cursor.proofs.open.closes_last.Lts as lts
+use Rattle.cursor.proofs.open.end_of.Reads as end-of-reads
+use Rattle.cursor.proofs.open.wide.Reads as wide-reads
+
+-- src/open.rt:104:9
+returns : tie.Need-returns
+returns c = search (needs, last-cases)
+
+-- src/open.rt:106:16
+sub-last : tie.Need-sub-last
+sub-last c = search (needs, last-cases)
+
+-- src/open.rt:107:22
+mul-end-of : tie.Need-mul-end-of
+mul-end-of c = search (needs, last-cases)
+
+-- src/open.rt:107:22
+element-copy-out-end-of : tie.Need-element-copy-out-end-of
+element-copy-out-end-of c = search (needs, last-cases)
+
+-- src/open.rt:107:37
+mul-end-of-2 : tie.Need-mul-end-of-2
+mul-end-of-2 c = search (needs, last-cases)
+
+-- src/open.rt:107:37
+element-copy-out-end-of-2 : tie.Need-element-copy-out-end-of-2
+element-copy-out-end-of-2 c = search (needs, last-cases)
+
+-- src/open.rt:107:9
+end-of-requires : tie.Need-end-of-requires
+end-of-requires c κs = search (needs, last-cases)
+
+-- src/open.rt:108:8
+wide-requires : tie.Need-wide-requires
+wide-requires c κs = search (needs, last-cases)
+
+-- src/open.rt:109:9
+returns-2 : tie.Need-returns-2
+returns-2 c = search (needs, last-cases)
+
+-- src/open.rt:99:1
+returns-3 : tie.Need-returns-3
+returns-3 c = search (needs, last-cases)
+
+pub closes-last-spec : {M : Type 1} → statement M
+closes-last-spec =
+    tie.close
+    (tie.spec
+    returns
+    sub-last
+    mul-end-of
+    element-copy-out-end-of
+    mul-end-of-2
+    element-copy-out-end-of-2
+    end-of-requires
+    wide-requires
+    returns-2
+    returns-3)

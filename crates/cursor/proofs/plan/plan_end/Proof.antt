@@ -1,0 +1,55 @@
+use borrow.Author.Needs.{needs}
+use Rattle.cursor.proofs.PlanReturns.{plan-cases}
+use Rattle.cursor.proofs.plan.plan_end.Statement.{statement}
+use Rattle.cursor.proofs.plan.plan_end.Tie as tie
+use Rattle.cursor.proofs.plan.plan_end.Reads as reads
+use Rattle.cursor.proofs.plan.plan_end.Lts as lts
+use Rattle.cursor.proofs.open.closes_last.Reads as closes-last-reads
+use Rattle.cursor.proofs.open.cursor_row.Reads as cursor-row-reads
+use Rattle.cursor.proofs.plan.refuse.Reads as refuse-reads
+use Rattle.cursor.proofs.plan.shut_last.Reads as shut-last-reads
+
+-- src/plan.rt:182:9
+cursor-row-requires : tie.Need-cursor-row-requires
+cursor-row-requires c κs = search (needs, plan-cases)
+
+-- src/plan.rt:184:9
+refuse-requires : tie.Need-refuse-requires
+refuse-requires c κs = search (needs, plan-cases)
+
+-- src/plan.rt:184:9
+returns : tie.Need-returns
+returns c = search (needs, plan-cases)
+
+-- src/plan.rt:186:9
+closes-last-requires : tie.Need-closes-last-requires
+closes-last-requires c κs = search (needs, plan-cases)
+
+-- src/plan.rt:187:9
+refuse-requires-2 : tie.Need-refuse-requires-2
+refuse-requires-2 c κs = search (needs, plan-cases)
+
+-- src/plan.rt:187:9
+returns-2 : tie.Need-returns-2
+returns-2 c = search (needs, plan-cases)
+
+-- src/plan.rt:189:5
+shut-last-requires : tie.Need-shut-last-requires
+shut-last-requires c κs = search (needs, plan-cases)
+
+-- src/plan.rt:170:1
+returns-3 : tie.Need-returns-3
+returns-3 c = search (needs, plan-cases)
+
+pub plan-end-spec : {M : Type 1} → statement M
+plan-end-spec =
+    tie.close
+    (tie.spec
+    cursor-row-requires
+    refuse-requires
+    returns
+    closes-last-requires
+    refuse-requires-2
+    returns-2
+    shut-last-requires
+    returns-3)

@@ -1,0 +1,66 @@
+-- What the calls that look promise.
+use Prim.Native.Nat.{ℕ, _+_}
+use mathlib.Core.Bool.{true, false}
+use mathlib.Core.Path.{_≡_}
+use mathlib.Core.List.{List, [], _∷_}
+use Rattle.format.specs.Test.{if_then_else_}
+use Rattle.format.specs.Reader as format
+use Rattle.format.specs.Cursor.{tokenTree, peekTwoLeaves, treeHere, secondLeaf, firstLeaf, cursorStep}
+use Rattle.format.specs.Buffer.{wordShape, ownReader}
+use Rattle.tree.specs.declared.types.Spacing.the-variants.{Alone}
+use Rattle.tree.specs.declared.types.Leaf.{Leaf}
+use Rattle.tree.specs.declared.types.Leaf.the-variants.{Punct}
+use Rattle.tree.specs.declared.types.TokenTree.{TokenTree}
+use Rattle.tree.specs.declared.types.TokenTree.the-variants as trees
+use Rattle.walk.specs.Source.{treeShape, treeReader, answerWords}
+use Rattle.cursor.specs.Open.{cursorOf}
+use Rattle.cursor.specs.Plan.{answerOf}
+use Rattle.cursor.specs.declared.open.At.{At}
+use Rattle.cursor.specs.declared.plan.Answer.{Answer}
+use Rattle.cursor.specs.declared.plan.Answer.the-variants.{None}
+use Rattle.cursor.specs.declared.look.Ahead.{Ahead}
+use Rattle.cursor.specs.declared.look.TwoLeaves.{TwoLeaves}
+
+-- ---- one tree
+
+-- `token_tree` on a cursor: the one tree that the tables give, and by list words what the definitions' reader reads
+pub record Tells (b : List ℕ) (k : ℕ) (parts symbols : List ℕ) (c : At) (ns cs ps : List ℕ) (r : Answer) : Type 0 where
+  pub exact : answerOf r ≡ cursorStep treeShape (treeReader b k parts symbols) tokenTree (cursorOf c ns cs ps) .0
+  pub words : answerWords (answerOf r) ≡ cursorStep wordShape (ownReader b k parts symbols) tokenTree (cursorOf c ns cs ps) .0
+
+pub record Here (b parts symbols : List ℕ) (c : At) (r : Answer) : Type 0 where
+  pub step : (k : ℕ) → answerOf r ≡ treeHere treeShape (treeReader b k parts symbols) (c .number) (treeReader b k parts symbols .read (c .number) (c .place))
+
+-- ---- two leaves
+
+abbrev pub blankLeaf : Leaf
+blankLeaf = Punct (record { char = 0; spacing = Alone; span = record { file = 0; «ast_id» = 0; context = 0; start = 0; len = 0 } })
+
+abbrev pub noLeaves : Answer → TwoLeaves
+noLeaves a = record { found = false; leaves = record { leaf = blankLeaf } ∷ record { leaf = blankLeaf } ∷ []; otherwise = a }
+
+abbrev pub bothOf : List Ahead → format.Answer TokenTree
+bothOf [] = format.none
+bothOf (a ∷ []) = format.none
+bothOf (a ∷ b ∷ more) = format.two (trees.Leaf (a .leaf)) (trees.Leaf (b .leaf))
+
+-- "two leaves, the nearer one first", beside a found flag
+unfoldable pub peekOf : TwoLeaves → format.Answer TokenTree
+peekOf r = if r .found then bothOf (r .leaves) else answerOf (r .otherwise)
+
+-- what an answer does not say is blank
+unfoldable pub tidy : TwoLeaves → TwoLeaves
+tidy r = if r .found then record { found = true; leaves = r .leaves; otherwise = None } else noLeaves (r .otherwise)
+
+pub record Peeks (b : List ℕ) (k : ℕ) (parts symbols : List ℕ) (c : At) (ns cs ps : List ℕ) (r : TwoLeaves) : Type 0 where
+  pub exact : peekOf r ≡ cursorStep treeShape (treeReader b k parts symbols) peekTwoLeaves (cursorOf c ns cs ps) .0
+  pub words : answerWords (peekOf r) ≡ cursorStep wordShape (ownReader b k parts symbols) peekTwoLeaves (cursorOf c ns cs ps) .0
+  pub whole : r ≡ tidy r
+
+pub record Second (b parts symbols : List ℕ) (n p : ℕ) (near : Leaf) (r : TwoLeaves) : Type 0 where
+  pub step : (k : ℕ) → peekOf r ≡ secondLeaf treeShape (treeReader b k parts symbols) n (trees.Leaf near) (treeReader b k parts symbols .read (n + 1) p)
+  pub whole : r ≡ tidy r
+
+pub record First (b parts symbols : List ℕ) (c : At) (r : TwoLeaves) : Type 0 where
+  pub step : (k : ℕ) → peekOf r ≡ firstLeaf treeShape (treeReader b k parts symbols) (c .number) (treeReader b k parts symbols .read (c .number) (c .place))
+  pub whole : r ≡ tidy r

@@ -1,0 +1,177 @@
+// The calls that look and change nothing, over a small state and three lent arrays.
+use crate::open::At;
+use crate::open::cursor_row;
+use crate::open::lies_inside;
+use crate::plan::Answer;
+use decode::decode::TreeRead;
+use decode::decode::decode;
+use tree::refusal::Refusal;
+use tree::types::Leaf;
+use tree::types::Punct;
+use tree::types::Spacing;
+use tree::types::Span;
+use tree::types::TokenTree;
+ghost use mathlib.Core.Path.{_≡_};
+ghost use Prim.Native.Nat.{_+_, _<_};
+ghost use Rattle.cursor.specs.declared.plan.Answer.the-variants as answers;
+ghost use Rattle.cursor.specs.Look.{blankLeaf, noLeaves, Here, Second, First, Tells, Peeks};
+
+// A leaf ahead of the cursor.
+pub struct Ahead {
+    pub leaf: Leaf,
+}
+
+// The nearer leaf first. Where two were not found the leaves are blank, and `otherwise` says why.
+pub struct TwoLeaves {
+    pub found: bool,
+    pub leaves: [Ahead; 2],
+    pub otherwise: Answer,
+}
+
+fn refused(number: u32, tree: u32) -> Answer
+    ensures { λ r. ⌜ r ≡ answers.Refused (record { number = number; tree = tree }) ⌝ }
+{
+    Answer::Refused(Refusal {
+        number: number,
+        tree: tree,
+    })
+}
+
+// The tree that the cursor stands at.
+fn tree_here(b: &[u8], parts: &[u32], symbols: &[u32], at: At) -> Answer
+    ensures { λ r. ⌜ Here (now (b .entry)) (now (parts .entry)) (now (symbols .entry)) at r ⌝ }
+{
+    let read = decode(b, parts, symbols, at.number, at.place);
+    match read {
+        TreeRead::Refused(number) => refused(number, at.number),
+        TreeRead::Got(here) => {
+            let tree = here.tree;
+            Answer::Tree(tree)
+        }
+    }
+}
+
+// None where it lies outside the list or the last open subtree.
+pub fn token_tree<'a>(
+    b: &[u8],
+    trees: u32,
+    parts: &[u32],
+    symbols: &[u32],
+    at: At,
+    numbers: &'a [u32; 256],
+    counts: &'a [u32; 256],
+    places: &'a [usize; 256],
+) -> Answer
+    ensures { λ r. ⌜ Tells (now (b .entry)) trees (now (parts .entry)) (now (symbols .entry)) at (now (numbers .entry)) (now (counts .entry)) (now (places .entry)) r ⌝ }
+{
+    let row = cursor_row(b, trees, parts, symbols, at, numbers, counts, places);
+    if row != 0 {
+        return refused(row, 0);
+    }
+    if !lies_inside(trees, at, 0, numbers, counts) {
+        return Answer::None;
+    }
+    tree_here(b, parts, symbols, at)
+}
+
+// ---- two leaves
+
+fn blank() -> Leaf
+    ensures { λ r. ⌜ r ≡ blankLeaf ⌝ }
+{
+    let span = Span {
+        file: 0,
+        ast_id: 0,
+        context: 0,
+        start: 0,
+        len: 0,
+    };
+    Leaf::Punct(Punct {
+        char: 0,
+        spacing: Spacing::Alone,
+        span: span,
+    })
+}
+
+fn no_leaves(otherwise: Answer) -> TwoLeaves
+    ensures { λ r. ⌜ r ≡ noLeaves otherwise ⌝ }
+{
+    let leaf = blank();
+    let leaves = [Ahead { leaf: leaf }, Ahead { leaf: leaf }];
+    TwoLeaves {
+        found: false,
+        leaves: leaves,
+        otherwise: otherwise,
+    }
+}
+
+// The second leaf, behind the tree of this number.
+fn second(
+    b: &[u8],
+    parts: &[u32],
+    symbols: &[u32],
+    number: u32,
+    place: usize,
+    near: Leaf,
+) -> TwoLeaves
+    requires { ⌜ number + 1 < 4294967296 ⌝ }
+    ensures { λ r. ⌜ Second (now (b .entry)) (now (parts .entry)) (now (symbols .entry)) number place near r ⌝ }
+{
+    let read = decode(b, parts, symbols, number + 1, place);
+    match read {
+        TreeRead::Refused(refusal) => no_leaves(refused(refusal, number + 1)),
+        TreeRead::Got(here) => {
+            let tree = here.tree;
+            let TokenTree::Leaf(far) = tree else {
+                return no_leaves(Answer::None);
+            };
+            let leaves = [Ahead { leaf: near }, Ahead { leaf: far }];
+            TwoLeaves {
+                found: true,
+                leaves: leaves,
+                otherwise: Answer::None,
+            }
+        }
+    }
+}
+
+// If the first is no leaf, the second is not read.
+fn first(b: &[u8], parts: &[u32], symbols: &[u32], at: At) -> TwoLeaves
+    requires { ⌜ at .number + 1 < 4294967296 ⌝ }
+    ensures { λ r. ⌜ First (now (b .entry)) (now (parts .entry)) (now (symbols .entry)) at r ⌝ }
+{
+    let read = decode(b, parts, symbols, at.number, at.place);
+    match read {
+        TreeRead::Refused(number) => no_leaves(refused(number, at.number)),
+        TreeRead::Got(here) => {
+            let tree = here.tree;
+            let TokenTree::Leaf(near) = tree else {
+                return no_leaves(Answer::None);
+            };
+            second(b, parts, symbols, at.number, here.next, near)
+        }
+    }
+}
+
+// None where one of the two lies outside the list or the last open subtree.
+pub fn peek_two_leaves<'a>(
+    b: &[u8],
+    trees: u32,
+    parts: &[u32],
+    symbols: &[u32],
+    at: At,
+    numbers: &'a [u32; 256],
+    counts: &'a [u32; 256],
+    places: &'a [usize; 256],
+) -> TwoLeaves
+    ensures { λ r. ⌜ Peeks (now (b .entry)) trees (now (parts .entry)) (now (symbols .entry)) at (now (numbers .entry)) (now (counts .entry)) (now (places .entry)) r ⌝ }
+{
+    let row = cursor_row(b, trees, parts, symbols, at, numbers, counts, places);
+    if row != 0 {
+        return no_leaves(refused(row, 0));
+    }
+    if !lies_inside(trees, at, 1, numbers, counts) {
+        return no_leaves(Answer::None);
+    }
+    first(b, parts, symbols, at)
+}

@@ -1,0 +1,213 @@
+// What each call answers, and how it changes the cursor. The arrays are read here and not written.
+use crate::open::At;
+use crate::open::MOST_OPEN;
+use crate::open::closes_last;
+use crate::open::cursor_row;
+use decode::decode::TreeAt;
+use decode::decode::TreeRead;
+use decode::decode::decode;
+use tree::raw::Descendants;
+use tree::refusal::Refusal;
+use tree::types::TokenTree;
+ghost use mathlib.Core.Path.{_≡_};
+ghost use Prim.Native.Nat.{_+_, _<_, _≤_};
+ghost use Rattle.format.specs.Cursor.{bump, end, bumpOrEnd};
+ghost use Rattle.cursor.specs.Plan.{refusal, doing, Enters, GoesOn, Shuts, ShutsLast, Planned};
+
+pub enum Answer {
+    // Nothing to hand back.
+    Done,
+    None,
+    Tree(TokenTree),
+    Refused(Refusal),
+}
+
+// A subtree that is opened, and the place of its first child.
+pub struct Opening {
+    pub count: Descendants,
+    pub next: usize,
+}
+
+pub enum Change {
+    Stay,
+    // To the next tree, at this place.
+    On(usize),
+    // Into a subtree.
+    Open(Opening),
+    // The last open subtree is shut.
+    Shut,
+}
+
+pub struct Plan {
+    pub answer: Answer,
+    pub change: Change,
+}
+
+fn refuse(number: u32, tree: u32) -> Plan
+    ensures { λ r. ⌜ r ≡ refusal number tree ⌝ }
+{
+    let refusal = Refusal {
+        number: number,
+        tree: tree,
+    };
+    Plan {
+        answer: Answer::Refused(refusal),
+        change: Change::Stay,
+    }
+}
+
+fn done(change: Change) -> Plan
+    ensures { λ r. ⌜ r ≡ doing change ⌝ }
+{
+    Plan {
+        answer: Answer::Done,
+        change: change,
+    }
+}
+
+// Over a leaf, or into a subtree: 4 for a 257th that is open.
+fn enter(at: At, here: TreeAt) -> Plan
+    requires { ⌜ at .number + 1 < 4294967296 ⌝ }
+    ensures { λ r. ⌜ Enters at here r ⌝ }
+{
+    let tree = here.tree;
+    match tree {
+        TokenTree::Leaf(_) => done(Change::On(here.next)),
+        TokenTree::Subtree(subtree) => {
+            if MOST_OPEN <= at.depth {
+                return refuse(4, at.number);
+            }
+            let count = subtree.len;
+            let opening = Opening {
+                count: count,
+                next: here.next,
+            };
+            done(Change::Open(opening))
+        }
+    }
+}
+
+// To the next tree. At the end nothing changes.
+fn go_on(b: &[u8], trees: u32, parts: &[u32], symbols: &[u32], at: At) -> Plan
+    ensures { λ r. ⌜ GoesOn (now (b .entry)) trees (now (parts .entry)) (now (symbols .entry)) at r ⌝ }
+{
+    if trees <= at.number {
+        return done(Change::Stay);
+    }
+    let read = decode(b, parts, symbols, at.number, at.place);
+    match read {
+        TreeRead::Refused(number) => refuse(number, at.number),
+        TreeRead::Got(here) => enter(at, here),
+    }
+}
+
+// An open subtree that was read again: 10 if it is none with that count.
+fn shut(here: TreeAt, count: u32) -> Plan
+    ensures { λ r. ⌜ Shuts here count r ⌝ }
+{
+    let tree = here.tree;
+    match tree {
+        TokenTree::Leaf(_) => refuse(10, 0),
+        TokenTree::Subtree(subtree) => {
+            let len = subtree.len;
+            if len.0 != count {
+                return refuse(10, 0);
+            }
+            Plan {
+                answer: Answer::Tree(tree),
+                change: Change::Shut,
+            }
+        }
+    }
+}
+
+// The last open subtree, read again at its place and shut.
+fn shut_last<'a>(
+    b: &[u8],
+    parts: &[u32],
+    symbols: &[u32],
+    at: At,
+    numbers: &'a [u32; 256],
+    counts: &'a [u32; 256],
+    places: &'a [usize; 256],
+) -> Plan
+    requires { ⌜ (0 < at .depth) × (at .depth ≤ 256) ⌝ }
+    ensures { λ r. ⌜ ShutsLast (now (b .entry)) (now (parts .entry)) (now (symbols .entry)) at (now (numbers .entry)) (now (counts .entry)) (now (places .entry)) r ⌝ }
+{
+    let last = at.depth - 1;
+    let number = numbers[last];
+    let read = decode(b, parts, symbols, number, places[last]);
+    match read {
+        TreeRead::Refused(refused) => refuse(refused, number),
+        TreeRead::Got(here) => shut(here, counts[last]),
+    }
+}
+
+// `bump`: closing is 10.
+pub fn plan_bump<'a>(
+    b: &[u8],
+    trees: u32,
+    parts: &[u32],
+    symbols: &[u32],
+    at: At,
+    numbers: &'a [u32; 256],
+    counts: &'a [u32; 256],
+    places: &'a [usize; 256],
+) -> Plan
+    ensures { λ r. ⌜ Planned (now (b .entry)) trees (now (parts .entry)) (now (symbols .entry)) bump at (now (numbers .entry)) (now (counts .entry)) (now (places .entry)) r ⌝ }
+{
+    let row = cursor_row(b, trees, parts, symbols, at, numbers, counts, places);
+    if row != 0 {
+        return refuse(row, 0);
+    }
+    if closes_last(at, numbers, counts) {
+        return refuse(10, 0);
+    }
+    go_on(b, trees, parts, symbols, at)
+}
+
+// `end`: not closing is 10.
+pub fn plan_end<'a>(
+    b: &[u8],
+    trees: u32,
+    parts: &[u32],
+    symbols: &[u32],
+    at: At,
+    numbers: &'a [u32; 256],
+    counts: &'a [u32; 256],
+    places: &'a [usize; 256],
+) -> Plan
+    ensures { λ r. ⌜ Planned (now (b .entry)) trees (now (parts .entry)) (now (symbols .entry)) end at (now (numbers .entry)) (now (counts .entry)) (now (places .entry)) r ⌝ }
+{
+    let row = cursor_row(b, trees, parts, symbols, at, numbers, counts, places);
+    if row != 0 {
+        return refuse(row, 0);
+    }
+    if !closes_last(at, numbers, counts) {
+        return refuse(10, 0);
+    }
+    shut_last(b, parts, symbols, at, numbers, counts, places)
+}
+
+// `bump_or_end`: closing shuts, and nothing is read.
+pub fn plan_bump_or_end<'a>(
+    b: &[u8],
+    trees: u32,
+    parts: &[u32],
+    symbols: &[u32],
+    at: At,
+    numbers: &'a [u32; 256],
+    counts: &'a [u32; 256],
+    places: &'a [usize; 256],
+) -> Plan
+    ensures { λ r. ⌜ Planned (now (b .entry)) trees (now (parts .entry)) (now (symbols .entry)) bumpOrEnd at (now (numbers .entry)) (now (counts .entry)) (now (places .entry)) r ⌝ }
+{
+    let row = cursor_row(b, trees, parts, symbols, at, numbers, counts, places);
+    if row != 0 {
+        return refuse(row, 0);
+    }
+    if closes_last(at, numbers, counts) {
+        return done(Change::Shut);
+    }
+    go_on(b, trees, parts, symbols, at)
+}

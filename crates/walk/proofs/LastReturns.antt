@@ -1,0 +1,167 @@
+-- One law for each return of `last_span` and its parts, with premises as the code's tests and calls give them.
+use Prim.Native.Nat.{ℕ, _<_, _≤_}
+use mathlib.Core.Bool.{true, false, _&&_}
+use mathlib.Core.Path.{_≡_, refl, sym, ap, _∙_, subst}
+use mathlib.Core.List.{List}
+use native.Mathlib.Omega.{arith}
+use borrow.Author.Tests.{lt-ltb, le-ltb}
+use lib.Dec.{ltb}
+use Rattle.format.specs.Test.{if_then_else_}
+use Rattle.format.specs.Reader.{Reader, Answer, none, one, refused}
+use Rattle.format.specs.Walk as steps
+use Rattle.format.specs.Walk.{advance, skip, walkStep}
+use Rattle.format.specs.Buffer.{wordShape, ownReader}
+use Rattle.format.specs.LastSpan.{lastAfter, lastTree, endSpan, spanAnswer, lastSpan}
+use Rattle.format.proofs.LastSpan.{step-less, last-step}
+use Rattle.tree.specs.Types.{spanList, treeWordsOf}
+use Rattle.tree.specs.declared.refusal.Refusal.{Refusal}
+use Rattle.tree.specs.declared.types.Span.{Span}
+use Rattle.tree.specs.declared.types.Punct.{Punct}
+use Rattle.tree.specs.declared.types.Ident.{Ident}
+use Rattle.tree.specs.declared.types.Literal.{Literal}
+use Rattle.tree.specs.declared.types.Subtree.{Subtree}
+use Rattle.tree.specs.declared.types.Leaf.{Leaf}
+use Rattle.tree.specs.declared.types.Leaf.the-variants as leaves
+use Rattle.tree.specs.declared.types.TokenTree.{TokenTree}
+use Rattle.tree.specs.declared.types.TokenTree.the-variants as trees
+use Rattle.walk.specs.Source.{treeShape, answerWords}
+use Rattle.walk.specs.Walk.{walkOf, answerOf, stepWords, Stepped}
+use Rattle.walk.specs.Last.{lastOf, AtLast, Same, Goes}
+use Rattle.walk.specs.declared.walk.Walk.{Walk}
+use Rattle.walk.specs.declared.walk.Answer.the-variants as answers
+use Rattle.walk.specs.declared.walk.Step.{Step}
+use Rattle.walk.specs.declared.last_span.LastSpan.{LastSpan}
+use Rattle.walk.specs.declared.last_span.LastSpan.the-variants as spans
+use Rattle.walk.specs.declared.last_span.Last.{Last}
+use Rattle.walk.specs.declared.last_span.Last.the-variants.{Found, Of}
+use Rattle.walk.proofs.WalkReturns.{leaf-flat, subtree-holds}
+
+-- ---- a leaf's span
+
+module _ (l : Leaf) where
+  pub punct-span : (p : Punct) → l ≡ leaves.Punct p → spanList (p .span) ≡ endSpan (treeWordsOf (trees.Leaf l))
+  unfolding treeWordsOf
+  punct-span p e = rw e
+
+  pub ident-span : (p : Ident) → l ≡ leaves.Ident p → spanList (p .span) ≡ endSpan (treeWordsOf (trees.Leaf l))
+  unfolding treeWordsOf
+  ident-span p e = rw e
+
+  pub literal-span : (p : Literal) → l ≡ leaves.Literal p → spanList (p .span) ≡ endSpan (treeWordsOf (trees.Leaf l))
+  unfolding treeWordsOf
+  literal-span p e = rw e
+
+pub ruleset leaf-cases = (punct-span, ident-span, literal-span)
+
+-- ---- one step of it
+
+module _ (b parts symbols : List ℕ) (k : ℕ) (w : Walk) where
+  abbrev O : Reader (List ℕ)
+  O = ownReader b k parts symbols
+
+  abbrev past : steps.Walk
+  past = walkStep wordShape O skip (walkOf w) .1
+
+  after : (a : Answer (List ℕ)) → walkStep wordShape O skip (walkOf w) .0 ≡ a
+      → lastTree wordShape O (walkOf w) ≡ lastAfter wordShape O (lastTree wordShape O) (walkOf w) a past
+  after a e = last-step wordShape O (walkOf w) ∙ ap (λ (x : Answer (List ℕ)). lastAfter wordShape O (lastTree wordShape O) (walkOf w) x past) e
+
+  -- ---- the last tree
+
+  module _ (t : TokenTree) (p : AtLast b k parts symbols w t) where
+    over : ltb 0 (past .left) ≡ false
+    over = ap (ltb 0) (p .last)
+
+    pub into-leaf : (l : Leaf) (s : Span) → t ≡ trees.Leaf l → spanList s ≡ endSpan (treeWordsOf (trees.Leaf l)) → Goes b k parts symbols w (Found (spans.Span s))
+    unfolding Goes lastOf
+    into-leaf l s e f =
+        let d : wordShape .isSub (treeWordsOf t) ≡ false = ap (treeShape .isSub) e ∙ leaf-flat l in
+        let c : lastAfter wordShape O (lastTree wordShape O) (walkOf w) (one (treeWordsOf t)) past ≡ one (treeWordsOf t) = simp (over, d) in
+        ap one (f ∙ ap (λ (u : TokenTree). endSpan (treeWordsOf u)) (sym e)) ∙ sym (ap spanAnswer (after (one (treeWordsOf t)) (p .answer) ∙ c))
+
+    module _ (q : Subtree) (e : t ≡ trees.Subtree q) where
+      holds : wordShape .isSub (treeWordsOf t) ≡ true
+      holds = ap (treeShape .isSub) e ∙ subtree-holds q .0
+
+      counts : wordShape .count (treeWordsOf t) ≡ q .len .0
+      counts = ap (treeShape .count) e ∙ subtree-holds q .1
+
+      closes : spanList (q .closing) ≡ endSpan (treeWordsOf t)
+      unfolding treeWordsOf
+      closes = rw e
+
+      pub into-empty : q .len .0 ≡ 0 → Goes b k parts symbols w (Found (spans.Span (q .closing)))
+      unfolding Goes lastOf
+      into-empty h =
+          let n : ltb 0 (wordShape .count (treeWordsOf t)) ≡ false = ap (ltb 0) (counts ∙ h) in
+          let c : lastAfter wordShape O (lastTree wordShape O) (walkOf w) (one (treeWordsOf t)) past ≡ one (treeWordsOf t) = simp (over, holds, n) in
+          ap one closes ∙ sym (ap spanAnswer (after (one (treeWordsOf t)) (p .answer) ∙ c))
+
+      pub into-on : (q .len .0 ≡ 0 → ⊥) → (s : Step) → Stepped b k parts symbols advance w s → Goes b k parts symbols w (Of (s .walk))
+      unfolding Goes
+      into-on h s f =
+          let i : 0 < wordShape .count (treeWordsOf t) = omega (arith, counts) in
+          let n : ltb 0 (wordShape .count (treeWordsOf t)) ≡ true = lt-ltb _ _ i in
+          let c : lastAfter wordShape O (lastTree wordShape O) (walkOf w) (one (treeWordsOf t)) past ≡ lastTree wordShape O (walkStep wordShape O advance (walkOf w) .1) = simp (over, holds, n) in
+          let v : walkStep wordShape O advance (walkOf w) .1 ≡ walkOf (s .walk) = sym (ap (λ x. x .1) (f .words)) in
+          record {
+            same = ap spanAnswer (after (one (treeWordsOf t)) (p .answer) ∙ c ∙ ap (lastTree wordShape O) v);
+            fewer = subst (λ (x : steps.Walk). x .left < w .left) v (step-less wordShape O (walkOf w) (treeWordsOf t) (p .answer) .1);
+          }
+
+  -- ---- past one tree
+
+  module _ (s : Step) (e : Stepped b k parts symbols skip w s) where
+    to : past ≡ walkOf (s .walk)
+    to = sym (ap (λ x. x .1) (e .words))
+
+    said : walkStep wordShape O skip (walkOf w) .0 ≡ answerWords (answerOf (s .answer))
+    said = sym (ap (λ x. x .0) (e .words))
+
+    pub go-refused : (r : Refusal) → s .answer ≡ answers.Refused r → Goes b k parts symbols w (Found (spans.Refused r))
+    unfolding Goes lastOf answerWords answerOf
+    go-refused r q = sym (ap spanAnswer (after (refused (r .number) (r .tree)) (said ∙ rw q)))
+
+    pub go-none : s .answer ≡ answers.None → Goes b k parts symbols w (Found spans.None)
+    unfolding Goes lastOf answerWords answerOf
+    go-none q = sym (ap spanAnswer (after none (said ∙ rw q)))
+
+    module _ (t : TokenTree) (q : s .answer ≡ answers.Tree t) where
+      tells : walkStep wordShape O skip (walkOf w) .0 ≡ one (treeWordsOf t)
+      unfolding answerWords answerOf
+      tells = said ∙ rw q
+
+      pub go-on : 0 < s .walk .left → Goes b k parts symbols w (Of (s .walk))
+      unfolding Goes
+      go-on h =
+          let n : ltb 0 (past .left) ≡ true = ap (λ (x : steps.Walk). ltb 0 (x .left)) to ∙ lt-ltb _ _ h in
+          let c : lastAfter wordShape O (lastTree wordShape O) (walkOf w) (one (treeWordsOf t)) past ≡ lastTree wordShape O past = simp n in
+          record {
+            same = ap spanAnswer (after (one (treeWordsOf t)) tells ∙ c ∙ ap (lastTree wordShape O) to);
+            fewer = subst (λ (x : steps.Walk). x .left < w .left) to (step-less wordShape O (walkOf w) (treeWordsOf t) tells .0);
+          }
+
+      pub go-last : s .walk .left ≤ 0 → AtLast b k parts symbols w t
+      go-last h =
+          let z : s .walk .left ≡ 0 = omega arith in
+          record { answer = tells; last = ap (λ (x : steps.Walk). x .left) to ∙ z }
+
+pub ruleset last-cases = (into-leaf, into-empty, into-on, go-refused, go-none, go-on, go-last)
+
+-- ---- the loop, at walk w
+
+module _ (b parts symbols : List ℕ) (k : ℕ) (first w : Walk) (r : Last) (g : Goes b k parts symbols w r) where
+  module _ (i : lastSpan b k parts symbols (walkOf first) ≡ lastSpan b k parts symbols (walkOf w)) where
+    pub loop-found : (a : LastSpan) → r ≡ Found a → lastOf a ≡ lastSpan b k parts symbols (walkOf first)
+    unfolding Goes
+    loop-found a q = subst (Goes b k parts symbols w) q g ∙ sym i
+
+    pub loop-same : (v : Walk) → r ≡ Of v → lastSpan b k parts symbols (walkOf first) ≡ lastSpan b k parts symbols (walkOf v)
+    unfolding Goes
+    loop-same v q = i ∙ subst (Goes b k parts symbols w) q g .same
+
+  pub loop-fewer : (v : Walk) → r ≡ Of v → v .left < w .left
+  unfolding Goes
+  loop-fewer v q = subst (Goes b k parts symbols w) q g .fewer
+
+pub ruleset loop-cases = (loop-found, loop-same, loop-fewer)

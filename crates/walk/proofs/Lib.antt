@@ -1,0 +1,5 @@
+pub mod SizesReturns
+pub mod WalkWords
+pub mod WalkReturns
+pub mod LastReturns
+pub mod WalkRule

@@ -1,0 +1,58 @@
+use borrow.Author.Needs.{needs}
+use Rattle.walk.proofs.LastReturns.{last-cases}
+use Rattle.walk.proofs.last_span.go_on.Statement.{statement}
+use Rattle.walk.proofs.last_span.go_on.Tie as tie
+use Rattle.walk.proofs.last_span.go_on.Reads as reads
+use Rattle.walk.proofs.last_span.go_on.Lts as lts
+use Rattle.walk.proofs.last_span.into.Reads as into-reads
+use Rattle.walk.proofs.walk.advance_skip_subtree.Reads as advance-skip-subtree-reads
+
+-- src/last_span.rt:63:9
+advance-skip-subtree-requires : tie.Need-advance-skip-subtree-requires
+advance-skip-subtree-requires c κs = search (needs, last-cases)
+
+-- src/last_span.rt:66:25
+enum-known-answer : tie.Need-enum-known-answer
+enum-known-answer c = search (needs, last-cases)
+
+-- src/last_span.rt:67:37
+enum-told : tie.Need-enum-told
+enum-told c = search (needs, last-cases)
+
+-- src/last_span.rt:68:22
+enum-known-answer-2 : tie.Need-enum-known-answer-2
+enum-known-answer-2 c = search (needs, last-cases)
+
+-- src/last_span.rt:71:17
+returns : tie.Need-returns
+returns c = search (needs, last-cases)
+
+-- src/last_span.rt:73:13
+into-requires : tie.Need-into-requires
+into-requires c κs = search (needs, last-cases)
+
+-- src/last_span.rt:60:1
+returns-2 : tie.Need-returns-2
+returns-2 c = search (needs, last-cases)
+
+-- src/last_span.rt:60:1
+returns-3 : tie.Need-returns-3
+returns-3 c = search (needs, last-cases)
+
+-- src/last_span.rt:60:1
+returns-4 : tie.Need-returns-4
+returns-4 c = search (needs, last-cases)
+
+pub go-on-spec : {M : Type 1} → statement M
+go-on-spec =
+    tie.close
+    (tie.spec
+    advance-skip-subtree-requires
+    enum-known-answer
+    enum-told
+    enum-known-answer-2
+    returns
+    into-requires
+    returns-2
+    returns-3
+    returns-4)

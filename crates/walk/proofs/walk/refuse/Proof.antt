@@ -1,0 +1,13 @@
+use borrow.Author.Needs.{needs}
+use Rattle.walk.proofs.WalkReturns.{walk-cases}
+use Rattle.walk.proofs.walk.refuse.Statement.{statement}
+use Rattle.walk.proofs.walk.refuse.Tie as tie
+use Rattle.walk.proofs.walk.refuse.Reads as reads
+use Rattle.walk.proofs.walk.refuse.Lts as lts
+
+-- src/walk.rt:45:1
+returns : tie.Need-returns
+returns c = search (needs, walk-cases)
+
+pub refuse-spec : {M : Type 1} → statement M
+refuse-spec = tie.close (tie.spec returns)

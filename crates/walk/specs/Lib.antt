@@ -1,0 +1,4 @@
+pub mod Source
+pub mod Walk
+pub mod Last
+pub mod Run

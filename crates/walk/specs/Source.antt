@@ -1,0 +1,36 @@
+-- A buffer as a reader of the source's trees, and such answers by list words.
+use Prim.Native.Nat.{ℕ, _%_}
+use mathlib.Core.Bool.{Bool, _&&_}
+use mathlib.Core.List.{List, []}
+use lib.ListN.{length}
+use lib.Dec.{leb}
+use Rattle.format.specs.Reader.{Shape, Reader, Answer, done, none, one, two, refused}
+use Rattle.format.specs.Tables.{rules, ownTables}
+use Rattle.format.specs.Buffer.{wordShape, rawShape, readerAs}
+use Rattle.tree.specs.Types.{resolved, treeWordsOf}
+use Rattle.tree.specs.declared.types.TokenTree.{TokenTree}
+
+-- row 1 is silent: "size or stated tree count outside the bounds; .. part words of 3"
+abbrev pub sizes : ℕ → List ℕ → List ℕ → Bool
+sizes k parts symbols = leb 1 k && leb k 1048576 && ownTables parts symbols .sized
+
+-- sort and descendant count are those that the list words say
+abbrev pub treeShape : Shape TokenTree
+treeShape =
+    record {
+      isSub = λ t. wordShape .isSub (treeWordsOf t);
+      count = λ t. wordShape .count (treeWordsOf t);
+      blank = resolved [] [] (rawShape .blank);
+    }
+
+-- document 01's table mode, as `ownReader`, the tree shown by its entries
+unfoldable pub treeReader : List ℕ → ℕ → List ℕ → List ℕ → Reader TokenTree
+treeReader b k parts symbols = readerAs (λ n t. resolved parts symbols t) b k (rules (ownTables parts symbols))
+
+-- "A tree handed back is compared by its list words."
+unfoldable pub answerWords : Answer TokenTree → Answer (List ℕ)
+answerWords done = done
+answerWords none = none
+answerWords (one t) = one (treeWordsOf t)
+answerWords (two t u) = two (treeWordsOf t) (treeWordsOf u)
+answerWords (refused r n) = refused r n

@@ -1,0 +1,180 @@
+// The steps of a walk. Any walk may be handed in, over any buffer: what it says is held against them first.
+use crate::sizes::sized;
+use decode::decode::TreeAt;
+use decode::decode::TreeRead;
+use decode::decode::decode;
+use tree::raw::Descendants;
+use tree::raw::place;
+use tree::refusal::Refusal;
+use tree::types::TokenTree;
+ghost use mathlib.Core.Path.{_≡_};
+ghost use Prim.Native.Nat.{_+_, _-_, _<_, _≤_};
+ghost use lib.ListN.{length};
+ghost use Rattle.format.specs.Reader.{one, refused};
+ghost use Rattle.format.specs.Walk.{advance, skip};
+ghost use Rattle.walk.specs.Source.{treeReader};
+ghost use Rattle.walk.specs.Walk.{walkOf, stepOf, walkRow, Within, Begins, passed, passedOver, Stepped};
+
+pub struct Walk {
+    pub place: usize,
+    pub number: u32,
+    pub left: u32,
+}
+
+pub enum Answer {
+    Tree(TokenTree),
+    None,
+    Refused(Refusal),
+}
+
+// What a step answers, and the walk that it leaves.
+pub struct Step {
+    pub answer: Answer,
+    pub walk: Walk,
+}
+
+// At the first of `trees` trees.
+pub fn fresh(trees: u32) -> Walk
+    ensures { λ r. ⌜ walkOf r ≡ record { place = 0; number = 0; left = trees } ⌝ }
+{
+    Walk {
+        place: 0,
+        number: 0,
+        left: trees,
+    }
+}
+
+fn refuse(number: u32, tree: u32, walk: Walk) -> Step
+    ensures { λ r. ⌜ stepOf r ≡ (refused number tree, walkOf walk) ⌝ }
+{
+    let refusal = Refusal {
+        number: number,
+        tree: tree,
+    };
+    Step {
+        answer: Answer::Refused(refusal),
+        walk: walk,
+    }
+}
+
+// The walk `trees` trees on.
+fn onward(walk: Walk, tree: TokenTree, trees: u32, next: usize) -> Step
+    requires { ⌜ (walk .number + trees < 4294967296) × (trees ≤ walk .left) ⌝ }
+    ensures { λ r. ⌜ stepOf r ≡ (one tree, record { place = next; number = walk .number + trees; left = walk .left - trees }) ⌝ }
+{
+    let then = Walk {
+        place: next,
+        number: walk.number + trees,
+        left: walk.left - trees,
+    };
+    Step {
+        answer: Answer::Tree(tree),
+        walk: then,
+    }
+}
+
+// Row 1 or 10, or 0.
+fn walk_row(b: &[u8], trees: u32, parts: &[u32], symbols: &[u32], walk: Walk) -> u32
+    ensures { λ r. ⌜ r ≡ walkRow (treeReader (now (b .entry)) trees (now (parts .entry)) (now (symbols .entry))) (walkOf walk) ⌝ }
+{
+    if !sized(trees, parts, symbols) {
+        return 1;
+    }
+    if b.len() < walk.place {
+        return 10;
+    }
+    if trees < walk.left {
+        return 10;
+    }
+    if trees - walk.left < walk.number {
+        return 10;
+    }
+    0
+}
+
+// What both steps begin with: the step is over, or a tree is read.
+enum Begun {
+    Stopped(Step),
+    Read(TreeAt),
+}
+
+fn begin(b: &[u8], trees: u32, parts: &[u32], symbols: &[u32], walk: Walk) -> Begun
+    ensures { λ r. ⌜ Begins (now (b .entry)) trees (now (parts .entry)) (now (symbols .entry)) walk r ⌝ }
+{
+    let row = walk_row(b, trees, parts, symbols, walk);
+    if row != 0 {
+        return Begun::Stopped(refuse(row, 0, walk));
+    }
+    if walk.left == 0 {
+        let step = Step {
+            answer: Answer::None,
+            walk: walk,
+        };
+        return Begun::Stopped(step);
+    }
+    let read = decode(b, parts, symbols, walk.number, walk.place);
+    match read {
+        TreeRead::Refused(number) => Begun::Stopped(refuse(number, walk.number, walk)),
+        TreeRead::Got(here) => Begun::Read(here),
+    }
+}
+
+// The next tree.
+pub fn advance(b: &[u8], trees: u32, parts: &[u32], symbols: &[u32], walk: Walk) -> Step
+    ensures { λ r. ⌜ Stepped (now (b .entry)) trees (now (parts .entry)) (now (symbols .entry)) advance walk r ⌝ }
+{
+    let begun = begin(b, trees, parts, symbols, walk);
+    match begun {
+        Begun::Stopped(step) => step,
+        Begun::Read(here) => {
+            let tree = here.tree;
+            onward(walk, tree, 1, here.next)
+        }
+    }
+}
+
+// Past a subtree: 3 if its count overruns the trees left, else 9 if its bytes overrun the buffer.
+fn past_subtree(b: &[u8], walk: Walk, here: TreeAt, count: Descendants) -> Step
+    requires { ⌜ Within (now b) walk here ⌝ }
+    ensures { λ r. ⌜ stepOf r ≡ passedOver (length (now (b .entry))) (walkOf walk) here (count .0) ⌝ }
+{
+    if walk.left <= count.0 {
+        return refuse(3, walk.number, walk);
+    }
+    let children = here.children;
+    let bytes = place(children.0);
+    if b.len() - here.next < bytes {
+        return refuse(9, walk.number, walk);
+    }
+    let tree = here.tree;
+    onward(walk, tree, 1 + count.0, here.next + bytes)
+}
+
+// Past the tree that was read and all that it holds.
+fn past(b: &[u8], walk: Walk, here: TreeAt) -> Step
+    requires { ⌜ Within (now b) walk here ⌝ }
+    ensures { λ r. ⌜ stepOf r ≡ passed (length (now (b .entry))) (walkOf walk) here ⌝ }
+{
+    let tree = here.tree;
+    match tree {
+        TokenTree::Leaf(_) => onward(walk, tree, 1, here.next),
+        TokenTree::Subtree(subtree) => past_subtree(b, walk, here, subtree.len),
+    }
+}
+
+// The next tree, and past all that it holds.
+pub fn advance_skip_subtree(
+    b: &[u8],
+    trees: u32,
+    parts: &[u32],
+    symbols: &[u32],
+    walk: Walk,
+) -> Step
+    ensures { λ r. ⌜ Stepped (now (b .entry)) trees (now (parts .entry)) (now (symbols .entry)) skip walk r ⌝ }
+{
+    let begun = begin(b, trees, parts, symbols, walk);
+    match begun {
+        Begun::Stopped(step) => step,
+        Begun::Read(here) => past(b, walk, here),
+    }
+}
