@@ -2,10 +2,14 @@
 use Prim.Native.Nat.{ℕ, zero, suc, _+_, _-_, _≤_, _<_}
 use mathlib.Core.Bool.{Bool, true, false}
 use mathlib.Core.Path.{_≡_, refl, sym, _∙_, ap}
+use mathlib.Core.Logic.{⊎-elim}
 use native.Mathlib.Omega.{arith}
+use borrow.Author.Tests.{lt-ltb, le-ltb}
 use Rattle.format.specs.Test.{if_then_else_}
 use Rattle.format.specs.Writer.{find}
-use Rattle.format.proofs.First.{find-from}
+use Rattle.format.proofs.First.{find-to}
+use Rattle.places.specs.Places.{soFar}
+use Rattle.places.proofs.Cases.{lt-or-le}
 
 module _ (t : ℕ → Bool) where
   -- found in the first run
@@ -80,3 +84,57 @@ pub find-same : (t u : ℕ → Bool) → ((i : ℕ) → t i ≡ u i) → (j i : 
 unfolding find
 find-same t u e zero i = refl
 find-same t u e (suc j) i = rw (e i, find-same t u e j (i + 1))
+
+-- ---- the first place so far
+
+module _ (t : ℕ → Bool) (n : ℕ) where
+  pub so-far-none : soFar t n 0 ≡ n
+  unfolding soFar find
+  so-far-none = refl
+
+  so-far-in : (e : ℕ) → find t e 0 < e → soFar t n e ≡ find t e 0
+  unfolding soFar
+  so-far-in e h = simp (lt-ltb _ _ h)
+
+  so-far-out : (e : ℕ) → e ≤ find t e 0 → soFar t n e ≡ n
+  unfolding soFar
+  so-far-out e h = simp (le-ltb _ _ h)
+
+  pub so-far-all : soFar t n n ≡ find t n 0
+  so-far-all = ⊎-elim (λ h. so-far-in n h) (λ h. let k = find-to t n 0 in so-far-out n h ∙ (let z : n ≡ find t n 0 = omega arith in z)) (lt-or-le (find t n 0) n)
+
+  module _ (e : ℕ) where
+    le-one : e ≤ e + 1
+    le-one = omega arith
+
+    one : e + 1 - e ≡ 1
+    one = omega arith
+
+    -- found before
+    so-far-kept : find t e 0 < e → soFar t n (e + 1) ≡ soFar t n e
+    so-far-kept h =
+        let q = find-before t e (e + 1) le-one h in
+        so-far-in (e + 1) (omega arith) ∙ q ∙ sym (so-far-in e h)
+
+    -- entry e does not pass
+    pub so-far-not : t e ≡ false → soFar t n (e + 1) ≡ soFar t n e
+    so-far-not f = ⊎-elim so-far-kept
+        (λ h.
+        let p : find t 1 e ≡ e + 1 = find-next t 1 e (omega arith) f ∙ find-end t (e + 1) in
+        let q : find t (e + 1) 0 ≡ e + 1 = find-behind t e (e + 1) le-one h ∙ ap (λ (j : ℕ). find t j e) one ∙ p in
+        so-far-out (e + 1) (omega arith) ∙ sym (so-far-out e h))
+        (lt-or-le (find t e 0) e)
+
+    -- it is the first that passes
+    pub so-far-first : t e ≡ true → e < n → soFar t n e ≡ n → soFar t n (e + 1) ≡ e
+    so-far-first f l s = ⊎-elim
+        (λ h. let q = so-far-in e h in absurd (omega arith))
+        (λ h.
+        let p : find t 1 e ≡ e = find-here t 1 e (omega arith) f in
+        let q : find t (e + 1) 0 ≡ e = find-behind t e (e + 1) le-one h ∙ ap (λ (j : ℕ). find t j e) one ∙ p in
+        so-far-in (e + 1) (omega arith) ∙ q)
+        (lt-or-le (find t e 0) e)
+
+    -- it is not
+    pub so-far-again : (soFar t n e ≡ n → ⊥) → soFar t n (e + 1) ≡ soFar t n e
+    so-far-again s = ⊎-elim so-far-kept (λ h. absurd (s (so-far-out e h))) (lt-or-le (find t e 0) e)

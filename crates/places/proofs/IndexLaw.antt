@@ -5,8 +5,7 @@ use mathlib.Core.Logic.{_⊎_, inl, inr, ⊎-elim}
 use mathlib.Core.Path.{_≡_, refl, ap, sym, _∙_, subst}
 use mathlib.Core.List.{List}
 use native.Mathlib.Omega.{arith}
-use native.Mathlib.Decide.{decLt, ℕ-discrete}
-use lib.ListN.{length, getD, set, length-set}
+use lib.ListN.{length, getD, set, length-set, List·getD-eq-default}
 use lib.Seq.{getD-set-same, getD-set-other}
 use lib.Dec.{eqb}
 use borrow.Author.Tests.{eqb-true, eq-eqb}
@@ -14,18 +13,13 @@ use Rattle.format.specs.Writer.{find}
 use Rattle.format.proofs.Each.{and₃, true-false}
 use Rattle.format.proofs.First.{find-at, find-from, find-to, find-first, none-find}
 use Rattle.places.specs.Key.{sameKey, isKey}
-use Rattle.places.specs.Index.{slotOf, probe, occupied, Leads, Held, UpTo, Zeros}
+use Rattle.places.specs.Index.{slotOf, probe, occupied, Leads, Held, Finds, Filled}
 use Rattle.places.specs.declared.key.Key.{Key}
 use Rattle.places.specs.declared.index.Looked.{Looked}
 use Rattle.places.specs.declared.index.Looked.the-variants.{Found, Empty, Full}
 use Rattle.places.proofs.FindLaw.{find-on, find-here}
+use Rattle.places.proofs.Cases.{lt-or-le, eq-or-ne}
 use Rattle.places.proofs.ProbeLaw.{Nothing, found-empty, found-full, probe-miss, probe-found, probe-empty, probe-keep, probe-new, Met, on, round, probe-full, occupied-none, occupied-set, occupied-all}
-
-lt-or-le : (a b : ℕ) → (a < b) ⊎ (b ≤ a)
-lt-or-le a b = elim (decLt a b) [ yes h ↦ inl h | no n ↦ inr (omega arith) ]
-
-eq-or-ne : (a b : ℕ) → (a ≡ b) ⊎ (a ≡ b → ⊥)
-eq-or-ne a b = elim (ℕ-discrete a b) [ yes h ↦ inl h | no n ↦ inr n ]
 
 -- ---- keys that are the same
 
@@ -42,131 +36,149 @@ pub is-key : (key : ℕ → Key) (k : Key) (i : ℕ) → isKey key k i ≡ true 
 unfolding isKey
 is-key key k i h = same-eq (key i) k h
 
--- ---- what a search finds is the first place
+pub key-is : (key : ℕ → Key) (k : Key) (i : ℕ) → key i ≡ k → isKey key k i ≡ true
+unfolding isKey sameKey
+key-is key k i e = rw e (simp (eq-eqb (k .file) (k .file) refl, eq-eqb (k .«ast_id») (k .«ast_id») refl, eq-eqb (k .context) (k .context) refl))
 
-module _ (key : ℕ → Key) (f g : ℕ) (slots : List ℕ) (H : Held key f g slots) where
-  pub held-below : (n : ℕ) → g ≤ n → UpTo n slots
-  held-below n h = record { at = λ s. ⊎-elim (λ z. let q = H .entry s z .to in omega arith) (λ z. omega arith) (lt-or-le 0 (getD slots s 0)) }
+pub key-not : (key : ℕ → Key) (k : Key) (i : ℕ) → (key i ≡ k → ⊥) → isKey key k i ≡ false
+key-not key k i n = go (isKey key k i) refl
+  where
+    go : (b : Bool) → isKey key k i ≡ b → isKey key k i ≡ false
+    go true e = absurd (n (is-key key k i e))
+    go false e = e
 
-  pub held-under : (n : ℕ) → g < n → UpTo n slots
-  held-under n h = held-below n (omega arith)
+-- ---- one that leads is its key's first place
+
+module _ (key : ℕ → Key) (g : ℕ) where
+  pub lead-first : (k : Key) (e : ℕ) → Leads key g e → key e ≡ k → find (isKey key k) g 0 ≡ e
+  lead-first k e L q =
+      let eg = L .to in
+      let f : find (isKey key k) e 0 ≡ e = subst (λ (x : Key). find (isKey key x) e 0 ≡ e) q (L .first) in
+      let n : g ≡ e + (g - e) = omega arith in
+      let m : 0 + e ≡ e = omega arith in
+      let p : 0 < g - e = omega arith in
+      ap (λ (j : ℕ). find (isKey key k) j 0) n ∙ find-on (isKey key k) e (g - e) 0 (omega arith) ∙ ap (λ (j : ℕ). find (isKey key k) (g - e) j) m
+      ∙ find-here (isKey key k) (g - e) e p (key-is key k e q)
+
+  -- two that lead are not alike
+  pub lead-once : (i j : ℕ) → Leads key g i → Leads key g j → key i ≡ key j → i ≡ j
+  lead-once i j L M e = sym (lead-first (key j) i L e) ∙ lead-first (key j) j M refl
+
+  -- and a key's first place leads
+  pub first-leads : (k : Key) (r : ℕ) → find (isKey key k) g 0 ≡ r → r < g → (key r ≡ k) × Leads key g r
+  first-leads k r e h =
+      let t : isKey key k r ≡ true = subst (λ (j : ℕ). isKey key k j ≡ true) e (find-at (isKey key k) g 0 (omega arith)) in
+      let n : find (isKey key k) r 0 ≡ 0 + r = none-find (isKey key k) r 0 (λ m u v. none m u v) in
+      let z : 0 + r ≡ r = omega arith in
+      let q = is-key key k r t in
+      (q, record { to = h; first = subst (λ (x : Key). find (isKey key x) r 0 ≡ r) (sym q) (n ∙ z) })
+    where
+      none : (m : ℕ) → 0 ≤ m → m < 0 + r → isKey key k m ≡ false
+      none m u v = go (isKey key k m) refl
+        where
+          go : (b : Bool) → isKey key k m ≡ b → isKey key k m ≡ false
+          go false q = q
+          go true q = let w = find-first (isKey key k) g 0 m q u (omega arith) in absurd (omega arith)
+
+-- ---- what a search finds
+
+module _ (key : ℕ → Key) (g : ℕ) (slots : List ℕ) (H : Held key g slots) where
+  pub held-below : (s : ℕ) → getD slots s 0 ≤ g
+  held-below s = ⊎-elim (λ z. let q = H .entry s z .to in omega arith) (λ z. omega arith) (lt-or-le 0 (getD slots s 0))
 
   module _ (k : Key) where
-    abbrev test : ℕ → Bool
-    test = isKey key k
-
     abbrev looked : Looked
-    looked = probe (length slots) slots test (slotOf k (length slots)) (length slots)
+    looked = probe (length slots) slots (isKey key k) (slotOf k (length slots)) (length slots)
 
-    -- an entry that leads and has this key is the key's first place
-    lead-first : (e : ℕ) → Leads key f g e → test e ≡ true → find test (g - f) f ≡ e
-    lead-first e L t =
-        let ef = L .from in
-        let eg = L .to in
-        let q : find test (e - f) f ≡ e = subst (λ (x : Key). find (isKey key x) (e - f) f ≡ e) (is-key key k e t) (L .first) in
-        let n : g - f ≡ e - f + (g - e) = omega arith in
-        let m : f + (e - f) ≡ e = omega arith in
-        let p : 0 < g - e = omega arith in
-        ap (λ (j : ℕ). find test j f) n ∙ find-on test (e - f) (g - e) f (omega arith) ∙ ap (λ (j : ℕ). find test (g - e) j) m ∙ find-here test (g - e) e p t
+    pub held-found : (j : ℕ) → looked ≡ Found j → Leads key g j × (key j ≡ k)
+    held-found j h =
+        let q = probe-found (length slots) slots (isKey key k) (Leads key g) (H .entry) (slotOf k (length slots)) (length slots) j h in
+        (q .1, is-key key k j (q .0))
 
-    -- and the key's first place leads
-    first-leads : (r : ℕ) → find test (g - f) f ≡ r → r < g → f ≤ g → (test r ≡ true) × Leads key f g r
-    first-leads r e h fg =
-        let t : test r ≡ true = subst (λ (j : ℕ). test j ≡ true) e (find-at test (g - f) f (omega arith)) in
-        let a : f ≤ r = subst (λ (j : ℕ). f ≤ j) e (find-from test (g - f) f) in
-        let n : find test (r - f) f ≡ f + (r - f) = none-find test (r - f) f (λ m u v. none m u v) in
-        let z : f + (r - f) ≡ r = omega arith in
-        (t, record { from = a; to = h; first = subst (λ (x : Key). find (isKey key x) (r - f) f ≡ r) (sym (is-key key k r t)) (n ∙ z) })
-      where
-        none : (m : ℕ) → f ≤ m → m < f + (r - f) → test m ≡ false
-        none m u v = go (test m) refl
-          where
-            go : (b : Bool) → test m ≡ b → test m ≡ false
-            go false q = q
-            go true q = let w = find-first test (g - f) f m q u (omega arith) in absurd (omega arith)
-
-    pub held-found : (e : ℕ) → looked ≡ Found e → (find test (g - f) f ≡ e) × (e < g)
-    held-found e h =
-        let q = probe-found (length slots) slots test (Leads key f g) (H .entry) (slotOf k (length slots)) (length slots) e h in
-        (lead-first e (q .1) (q .0), q .1 .to)
-
-    pub held-none : f ≤ g → Nothing looked → find test (g - f) f ≡ g
-    held-none fg h = ⊎-elim
-        (λ l.
-        let q = first-leads (find test (g - f) f) refl l fg in
-        let r = find test (g - f) f in
-        let same : slotOf (key r) (length slots) ≡ slotOf k (length slots) = ap (λ (x : Key). slotOf x (length slots)) (is-key key k r (q .0)) in
+    pub held-none : Nothing looked → (j : ℕ) → j < g → key j ≡ k → ⊥
+    held-none h j l e =
+        let m = find-first (isKey key k) g 0 j (key-is key k j e) (omega arith) (omega arith) in
+        let r = find (isKey key k) g 0 in
+        let q = first-leads key g k r refl (omega arith) in
+        let same : slotOf (key r) (length slots) ≡ slotOf k (length slots) = ap (λ (x : Key). slotOf x (length slots)) (q .0) in
         let there = subst (λ (s : ℕ). probe (length slots) slots (λ e. eqb e r) s (length slots) ≡ Found r) same (H .reach r (q .1)) in
-        true-false (test r) (q .0) (probe-miss (length slots) slots test (slotOf k (length slots)) (length slots) r there h))
-        (λ l. let m = find-to test (g - f) f in omega arith)
-        (lt-or-le (find test (g - f) f) g)
+        true-false (isKey key k r) (key-is key k r (q .0)) (probe-miss (length slots) slots (isKey key k) (slotOf k (length slots)) (length slots) r there h)
+
+    pub held-finds : Finds key g k looked
+    held-finds = record { found = held-found; none = held-none }
 
     -- there is an empty slot
-    pub held-room : g - f < length slots → slotOf k (length slots) < length slots → looked ≡ Full → ⊥
+    pub held-room : g < length slots → slotOf k (length slots) < length slots → looked ≡ Full → ⊥
     held-room h s q =
-        let all = occupied-all slots (λ i l. probe-full (length slots) slots test (slotOf k (length slots)) (length slots) i s l (met i l) q) in
+        let all = occupied-all slots (λ i l. probe-full (length slots) slots (isKey key k) (slotOf k (length slots)) (length slots) i s l (met i l) q) in
         let few = H .few in
         omega arith
       where
-        met : (i : ℕ) → i < length slots → Met (length slots) slots test (slotOf k (length slots)) (length slots) i
+        met : (i : ℕ) → i < length slots → Met (length slots) slots (isKey key k) (slotOf k (length slots)) (length slots) i
         met i l = ⊎-elim (λ a. round a (omega arith)) (λ a. on a (omega arith)) (lt-or-le i (slotOf k (length slots)))
 
-  -- ---- entry g
+  -- ---- key g
 
-  module _ (fg : f ≤ g) where
-    later : (r : ℕ) → Leads key f g r → Leads key f (g + 1) r
-    later r L = let h = L .to in record { from = L .from; to = omega arith; first = L .first }
+  later : (r : ℕ) → Leads key g r → Leads key (g + 1) r
+  later r L = let h = L .to in record { to = omega arith; first = L .first }
 
-    earlier : (r : ℕ) → Leads key f (g + 1) r → (r ≡ g → ⊥) → Leads key f g r
-    earlier r L n = let h = L .to in record { from = L .from; to = omega arith; first = L .first }
+  earlier : (r : ℕ) → Leads key (g + 1) r → (r ≡ g → ⊥) → Leads key g r
+  earlier r L n = let h = L .to in record { to = omega arith; first = L .first }
 
-    -- its like is there
-    pub enter-found : (e : ℕ) → looked (key g) ≡ Found e → Held key f (g + 1) slots
-    enter-found e h = record {
-      entry = λ s z. later (getD slots s 0 - 1) (H .entry s z);
-      reach = λ r L. H .reach r (earlier r L (λ q. old r L q));
-      few = let n = H .few in omega arith;
-    }
-      where
-        old : (r : ℕ) → Leads key f (g + 1) r → r ≡ g → ⊥
-        old r L q =
-            let a = held-found (key g) e h in
-            let b : find (isKey key (key g)) (g - f) f ≡ g = subst (λ (j : ℕ). find (isKey key (key j)) (j - f) f ≡ j) q (L .first) in
-            omega arith
+  -- its like is there
+  pub enter-found : (e : ℕ) → looked (key g) ≡ Found e → Held key (g + 1) slots
+  enter-found e h = record {
+    entry = λ s z. later (getD slots s 0 - 1) (H .entry s z);
+    reach = λ r L. H .reach r (earlier r L (λ q. old r L q));
+    few = let n = H .few in omega arith;
+  }
+    where
+      old : (r : ℕ) → Leads key (g + 1) r → r ≡ g → ⊥
+      old r L q =
+          let a = held-found (key g) e h in
+          let b = lead-first key g (key g) e (a .0) (a .1) in
+          let c : find (isKey key (key g)) g 0 ≡ g = subst (λ (j : ℕ). find (isKey key (key j)) j 0 ≡ j) q (L .first) in
+          let d = a .0 .to in
+          omega arith
 
-    -- it is new, and s is empty
-    pub enter-new : (s : ℕ) → slotOf (key g) (length slots) < length slots → looked (key g) ≡ Empty s → Held key f (g + 1) (set slots s (suc g))
-    enter-new s hs h =
-        let z = probe-empty (length slots) slots (isKey key (key g)) (slotOf (key g) (length slots)) (length slots) s hs h in
-        record {
-          entry = λ i p. ⊎-elim
-              (λ e. subst (λ (v : ℕ). Leads key f (g + 1) (v - 1)) (sym (stored i (z .1) e)) (subst (λ (j : ℕ). Leads key f (g + 1) j) one new))
-              (λ n. subst (λ (v : ℕ). Leads key f (g + 1) (v - 1)) (sym (getD-set-other slots s i (suc g) 0 n)) (later (getD slots i 0 - 1) (H .entry i (rw (getD-set-other slots s i (suc g) 0 n) at p))))
-              (eq-or-ne i s);
-          reach = λ r L. rw (length-set slots s (suc g)) (⊎-elim
-              (λ e. subst (λ (j : ℕ). probe (length slots) (set slots s (suc g)) (λ x. eqb x j) (slotOf (key j) (length slots)) (length slots) ≡ Found j) (sym e)
-              (probe-new (length slots) slots (isKey key (key g)) s g refl (z .0) (slotOf (key g) (length slots)) (length slots) hs h))
-              (λ n. probe-keep (length slots) slots s (suc g) (z .0) (slotOf (key r) (length slots)) (length slots) r (H .reach r (earlier r L n)))
-              (eq-or-ne r g));
-          few = let n = H .few in let m = occupied-set slots s (suc g) in omega arith;
-        }
-      where
-        nothing : Nothing (looked (key g))
-        nothing e q = found-empty e s (sym q ∙ h)
+  -- it is new, and s is empty
+  pub enter-new : (s : ℕ) → slotOf (key g) (length slots) < length slots → looked (key g) ≡ Empty s → Held key (g + 1) (set slots s (suc g))
+  enter-new s hs h =
+      let z = probe-empty (length slots) slots (isKey key (key g)) (slotOf (key g) (length slots)) (length slots) s hs h in
+      record {
+        entry = λ i p. ⊎-elim
+            (λ e. subst (λ (v : ℕ). Leads key (g + 1) (v - 1)) (sym (stored i (z .1) e)) (subst (λ (j : ℕ). Leads key (g + 1) j) one new))
+            (λ n.
+            let o = getD-set-other slots s i (suc g) 0 n in
+            subst (λ (v : ℕ). Leads key (g + 1) (v - 1)) (sym o) (later (getD slots i 0 - 1) (H .entry i (rw o at p))))
+            (eq-or-ne i s);
+        reach = λ r L. rw (length-set slots s (suc g)) (⊎-elim
+            (λ e. subst (λ (j : ℕ). probe (length slots) (set slots s (suc g)) (λ x. eqb x j) (slotOf (key j) (length slots)) (length slots) ≡ Found j) (sym e)
+            (probe-new (length slots) slots (isKey key (key g)) s g refl (z .0) (slotOf (key g) (length slots)) (length slots) hs h))
+            (λ n. probe-keep (length slots) slots s (suc g) (z .0) (slotOf (key r) (length slots)) (length slots) r (H .reach r (earlier r L n)))
+            (eq-or-ne r g));
+        few = let n = H .few in let m = occupied-set slots s (suc g) in omega arith;
+      }
+    where
+      absent : (j : ℕ) → j < g → key j ≡ key g → ⊥
+      absent = held-none (key g) (λ e q. found-empty e s (sym q ∙ h))
 
-        new : Leads key f (g + 1) g
-        new = record { from = fg; to = omega arith; first = held-none (key g) fg nothing }
+      new : Leads key (g + 1) g
+      new = record { to = omega arith; first = none-find (isKey key (key g)) g 0 (λ m u v. key-not key (key g) m (absent m (omega arith))) ∙ (let z : 0 + g ≡ g = omega arith in z) }
 
-        one : g ≡ suc g - 1
-        one = omega arith
+      one : g ≡ suc g - 1
+      one = omega arith
 
-        stored : (i : ℕ) → s < length slots → i ≡ s → getD (set slots s (suc g)) i 0 ≡ suc g
-        stored i l e = ap (λ (j : ℕ). getD (set slots s (suc g)) j 0) e ∙ getD-set-same slots s (suc g) 0 l
+      stored : (i : ℕ) → s < length slots → i ≡ s → getD (set slots s (suc g)) i 0 ≡ suc g
+      stored i l e = ap (λ (j : ℕ). getD (set slots s (suc g)) j 0) e ∙ getD-set-same slots s (suc g) 0 l
 
 -- nothing is entered yet
-pub held-empty : (key : ℕ → Key) (f : ℕ) (slots : List ℕ) → Zeros slots → Held key f f slots
-held-empty key f slots Z = record {
-  entry = λ s p. let z = Z .at s in absurd (omega arith);
-  reach = λ r L. let a = L .from in let b = L .to in absurd (omega arith);
-  few = let z = occupied-none slots (λ k. Z .at k) in omega arith;
+pub held-empty : (key : ℕ → Key) (slots : List ℕ) → Filled 0 (length slots) slots → Held key 0 slots
+held-empty key slots Z = record {
+  entry = λ s p. let z = zero-at s in absurd (omega arith);
+  reach = λ r L. let b = L .to in absurd (omega arith);
+  few = let z = occupied-none slots zero-at in omega arith;
 }
+  where
+    zero-at : (k : ℕ) → getD slots k 0 ≡ 0
+    zero-at k = ⊎-elim (λ h. Z .at k h) (λ h. List·getD-eq-default slots 0 {n = k} h) (lt-or-le k (length slots))

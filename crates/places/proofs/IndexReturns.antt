@@ -1,31 +1,25 @@
 -- One law for each return of the functions of src/index.rt.
 use Prim.Native.Nat.{ℕ, zero, suc, _+_, _*_, _-_, _/_, _%_, _<_, _≤_}
 use mathlib.Core.Bool.{Bool, true, false}
-use mathlib.Core.Logic.{_⊎_, inl, inr, ⊎-elim}
+use mathlib.Core.Logic.{⊎-elim}
 use mathlib.Core.Path.{_≡_, refl, ap, sym, _∙_, subst}
 use mathlib.Core.List.{List}
 use native.Mathlib.Omega.{arith}
-use native.Mathlib.Decide.{decLt, ℕ-discrete}
 use native.Mathlib.Nat.{mul-le-mul, mul-lt-mul-of-pos-right, div-lt-iff-lt-mul, mul-comm}
 use borrow.Author.Tests.{lt-ltb, le-ltb}
-use lib.ListN.{length, getD, set, length-set, List·getD-eq-default}
+use lib.ListN.{length, getD, set, length-set}
 use lib.Seq.{getD-set-same, getD-set-other}
 use lib.Dec.{ltb}
 use Rattle.format.specs.Test.{if_then_else_}
-use Rattle.format.specs.Writer.{find}
-use Rattle.places.specs.Key.{sameKey, keyAt, entryCount, isKey}
-use Rattle.places.specs.Index.{slotOf, nextSlot, atSlot, probe, portion, Held, Loaded, UpTo, Zeros, ZerosTo}
+use Rattle.places.specs.Key.{sameKey, keyAt, keyCount, shift, isKey}
+use Rattle.places.specs.Index.{slotOf, nextSlot, atSlot, probe, probeFor, Held, Loaded, Within, Finds, Filled}
 use Rattle.places.specs.declared.key.Key.{Key}
+use Rattle.places.specs.declared.key.Layout.{Layout}
 use Rattle.places.specs.declared.index.Looked.{Looked}
 use Rattle.places.specs.declared.index.Looked.the-variants.{Found, Empty, Full}
-use Rattle.places.proofs.ProbeLaw.{found-empty, found-full, empty-full, probe-empty}
-use Rattle.places.proofs.IndexLaw.{held-below, held-under, held-found, held-none, held-room, enter-found, enter-new, held-empty}
-
-eq-or-ne : (a b : ℕ) → (a ≡ b) ⊎ (a ≡ b → ⊥)
-eq-or-ne a b = elim (ℕ-discrete a b) [ yes h ↦ inl h | no n ↦ inr n ]
-
-lt-or-le : (a b : ℕ) → (a < b) ⊎ (b ≤ a)
-lt-or-le a b = elim (decLt a b) [ yes h ↦ inl h | no n ↦ inr (omega arith) ]
+use Rattle.places.proofs.Cases.{eq-or-ne, kept}
+use Rattle.places.proofs.ProbeLaw.{probe-empty}
+use Rattle.places.proofs.IndexLaw.{held-below, held-finds, held-room, enter-found, enter-new, held-empty}
 
 -- ---- slots
 
@@ -53,8 +47,8 @@ pub ruleset slot-cases = (slot-is, next-on, next-round)
 
 -- ---- a search
 
-pub upto-entry : (n : ℕ) (t : List ℕ) (s x : ℕ) → UpTo n t → x ≡ getD t s 0 → (x ≡ 0 → ⊥) → x - 1 < n
-upto-entry n t s x u e z = let h : getD t s 0 ≤ n = u .at s in omega arith
+pub within-key : (t : List ℕ) (w : Layout) (base : ℕ) (slots : List ℕ) (s x : ℕ) → Within t w base slots → x ≡ getD slots s 0 → (x ≡ 0 → ⊥) → base + (x - 1) < keyCount t w
+within-key t w base slots s x W e z = let h = W .at s in omega arith
 
 step-empty : (N : ℕ) (t : List ℕ) (T : ℕ → Bool) (s left : ℕ) → 0 < left → getD t s 0 ≡ 0 → probe N t T s left ≡ Empty s
 unfolding probe
@@ -105,18 +99,17 @@ module _ (key : ℕ → Key) (k : Key) (N : ℕ) (t : List ℕ) (start s left : 
       pub look-on : b ≡ false → (s′ : ℕ) → s′ ≡ nextSlot N s → probe N t (isKey key k) start N ≡ probe N t (isKey key k) s′ (left - 1)
       look-on y s′ n = inv ∙ step-on N t (isKey key k) s left e h (sym q) z (sym here ∙ y) ∙ rw n
 
-pub ruleset look-cases = (upto-entry, look-full, look-empty, look-found, look-on)
+pub ruleset look-cases = (within-key, look-full, look-empty, look-found, look-on)
 
--- ---- a key's first place
+-- ---- a key
 
-module _ (key : ℕ → Key) (f g : ℕ) (slots : List ℕ) (H : Held key f g slots) (k : Key) (start : ℕ) (es : start ≡ slotOf k (length slots)) (q : Looked)
-    (eq : q ≡ probe (length slots) slots (isKey key k) start (length slots)) where
+module _ (key : ℕ → Key) (k : Key) (slots : List ℕ) (start : ℕ) (es : start ≡ slotOf k (length slots)) (q : Looked) (eq : q ≡ probeFor key k slots start (length slots)) where
   looked : (r : Looked) → q ≡ r → probe (length slots) slots (isKey key k) (slotOf k (length slots)) (length slots) ≡ r
   looked r e = ap (λ (s : ℕ). probe (length slots) slots (isKey key k) s (length slots)) (sym es) ∙ sym eq ∙ e
 
-module _ (t : List ℕ) (w : Bool) (f g : ℕ) (slots : List ℕ) (L : Loaded t w f g slots) where
-  pub loaded-upto : UpTo (entryCount t w) slots
-  loaded-upto = held-below (keyAt t w) f g slots (L .held) (entryCount t w) (L .inside)
+module _ (t : List ℕ) (w : Layout) (base g : ℕ) (slots : List ℕ) (L : Loaded t w base g slots) where
+  pub loaded-within : Within t w base slots
+  loaded-within = record { at = λ s. let h = held-below (shift (keyAt t w) base) g slots (L .held) s in let i = L .inside in omega arith }
 
   pub loaded-some : 0 < length slots
   loaded-some = L .some
@@ -124,85 +117,74 @@ module _ (t : List ℕ) (w : Bool) (f g : ℕ) (slots : List ℕ) (L : Loaded t 
   pub loaded-most : length slots ≤ 1048576
   loaded-most = L .most
 
-  module _ (k : Key) (start : ℕ) (es : start ≡ slotOf k (length slots)) (q : Looked) (eq : q ≡ probe (length slots) slots (isKey (keyAt t w) k) start (length slots)) where
-    to : (r : Looked) → q ≡ r → probe (length slots) slots (isKey (keyAt t w) k) (slotOf k (length slots)) (length slots) ≡ r
-    to = looked (keyAt t w) f g slots (L .held) k start es q eq
+  pub loaded-finds : (k : Key) (start : ℕ) → start ≡ slotOf k (length slots) → (q : Looked) → q ≡ probeFor (shift (keyAt t w) base) k slots start (length slots)
+      → Finds (shift (keyAt t w) base) g k q
+  loaded-finds k start es q eq =
+      subst (λ (r : Looked). Finds (shift (keyAt t w) base) g k r) (looked (shift (keyAt t w) base) k slots start es q eq q refl) (held-finds (shift (keyAt t w) base) g slots (L .held) k)
 
-    pub first-found : (e : ℕ) → q ≡ Found e → e ≡ find (isKey (keyAt t w) k) (g - f) f
-    first-found e h = sym (held-found (keyAt t w) f g slots (L .held) k e (to (Found e) h) .0)
+pub ruleset find-cases = (loaded-within, loaded-some, loaded-most, loaded-finds)
 
-    pub first-most : (e : ℕ) → q ≡ Found e → e ≤ g
-    first-most e h = let l = held-found (keyAt t w) f g slots (L .held) k e (to (Found e) h) .1 in omega arith
+-- ---- one more key
 
-    pub first-empty : (s : ℕ) → q ≡ Empty s → g ≡ find (isKey (keyAt t w) k) (g - f) f
-    first-empty s h = sym (held-none (keyAt t w) f g slots (L .held) k (L .order) (λ e p. found-empty e s (sym p ∙ to (Empty s) h)))
+pub held-within : (t : List ℕ) (w : Layout) (base g : ℕ) (slots : List ℕ) → Held (shift (keyAt t w) base) g slots → base + g < keyCount t w → Within t w base slots
+held-within t w base g slots H h = record { at = λ s. let b = held-below (shift (keyAt t w) base) g slots H s in omega arith }
 
-    pub first-full : q ≡ Full → g ≡ find (isKey (keyAt t w) k) (g - f) f
-    first-full h = sym (held-none (keyAt t w) f g slots (L .held) k (L .order) (λ e p. found-full e (sym p ∙ to Full h)))
-
-pub ruleset first-cases = (loaded-upto, loaded-some, loaded-most, first-found, first-most, first-empty, first-full)
-
--- ---- one more entry
-
-module _ (key : ℕ → Key) (f g : ℕ) (slots : List ℕ) (H : Held key f g slots) (k : Key) (ek : k ≡ key g) (start : ℕ) (es : start ≡ slotOf k (length slots)) (q : Looked)
-    (eq : q ≡ probe (length slots) slots (isKey key k) start (length slots)) where
+module _ (key : ℕ → Key) (g : ℕ) (slots : List ℕ) (H : Held key g slots) (k : Key) (ek : k ≡ key g) (start : ℕ) (es : start ≡ slotOf k (length slots)) (q : Looked)
+    (eq : q ≡ probeFor key k slots start (length slots)) where
   looked-g : (r : Looked) → q ≡ r → probe (length slots) slots (isKey key (key g)) (slotOf (key g) (length slots)) (length slots) ≡ r
-  looked-g r e = subst (λ (x : Key). probe (length slots) slots (isKey key x) (slotOf x (length slots)) (length slots) ≡ r) ek (looked key f g slots H k start es q eq r e)
+  looked-g r e = subst (λ (x : Key). probe (length slots) slots (isKey key x) (slotOf x (length slots)) (length slots) ≡ r) ek (looked key k slots start es q eq r e)
+
+  below-g : start < length slots → slotOf (key g) (length slots) < length slots
+  below-g h = subst (λ (x : Key). slotOf x (length slots) < length slots) ek (subst (λ (x : ℕ). x < length slots) es h)
 
   pub enter-slot : (s : ℕ) → q ≡ Empty s → start < length slots → s < length slots
   enter-slot s h l = probe-empty (length slots) slots (isKey key k) start (length slots) s l (sym eq ∙ h) .1
 
-  pub enter-stored : (s : ℕ) → q ≡ Empty s → f ≤ g → start < length slots → Held key f (g + 1) (set slots s (g + 1))
-  enter-stored s h l hs =
+  pub enter-stored : (s : ℕ) → q ≡ Empty s → start < length slots → Held key (g + 1) (set slots s (g + 1))
+  enter-stored s h hs =
       let e : g + 1 ≡ suc g = omega arith in
-      let hs′ : slotOf (key g) (length slots) < length slots = subst (λ (x : Key). slotOf x (length slots) < length slots) ek (subst (λ (x : ℕ). x < length slots) es hs) in
-      subst (λ (v : ℕ). Held key f (g + 1) (set slots s v)) (sym e) (enter-new key f g slots H l s hs′ (looked-g (Empty s) h))
+      subst (λ (v : ℕ). Held key (g + 1) (set slots s v)) (sym e) (enter-new key g slots H s (below-g hs) (looked-g (Empty s) h))
 
-  pub enter-old : (e : ℕ) → q ≡ Found e → f ≤ g → Held key f (g + 1) slots
-  enter-old e h l = enter-found key f g slots H l e (looked-g (Found e) h)
+  pub enter-old : (e : ℕ) → q ≡ Found e → Held key (g + 1) slots
+  enter-old e h = enter-found key g slots H e (looked-g (Found e) h)
 
   -- there is room
-  pub enter-full : q ≡ Full → start < length slots → g - f < length slots → Held key f (g + 1) slots
-  enter-full h hs few =
-      let hs′ : slotOf (key g) (length slots) < length slots = subst (λ (x : Key). slotOf x (length slots) < length slots) ek (subst (λ (x : ℕ). x < length slots) es hs) in
-      absurd (held-room key f g slots H (key g) few hs′ (looked-g Full h))
+  pub enter-full : q ≡ Full → start < length slots → g < length slots → Held key (g + 1) slots
+  enter-full h hs few = absurd (held-room key g slots H (key g) few (below-g hs) (looked-g Full h))
 
-pub ruleset enter-cases = (held-under, enter-slot, enter-stored, enter-old, enter-full)
+pub ruleset enter-cases = (held-within, enter-slot, enter-stored, enter-old, enter-full)
 
--- ---- a portion
+-- ---- all of them
 
-pub held-all : (key : ℕ → Key) (f g i : ℕ) (slots : List ℕ) → Held key f i slots → i ≤ g → g ≤ i → Held key f g slots
-held-all key f g i slots H a b = let e : i ≡ g = omega arith in subst (λ (j : ℕ). Held key f j slots) e H
+pub held-all : (key : ℕ → Key) (g i : ℕ) (slots : List ℕ) → Held key i slots → i ≤ g → g ≤ i → Held key g slots
+held-all key g i slots H a b = let e : i ≡ g = omega arith in subst (λ (j : ℕ). Held key j slots) e H
 
-pub kept : (a b c : ℕ) → a ≡ b → b ≡ c → a ≡ c
-kept a b c p q = p ∙ q
+pub ruleset enter-all-cases = (held-empty, held-all, kept)
 
-pub ruleset fill-cases = (held-empty, held-all, kept)
+pub filled-again : (v : ℕ) (t : List ℕ) (n : ℕ) → Filled v n t → length t ≡ n → Filled v (length t) t
+filled-again v t n F e = subst (λ (m : ℕ). Filled v m t) (sym e) F
 
-pub loaded : (t : List ℕ) (w : Bool) (f g : ℕ) (slots : List ℕ) (n m : ℕ) → Held (keyAt t w) f g slots → f ≤ g → g ≤ entryCount t w → g ≤ 2097152
-    → length slots ≡ n → n ≡ m → 0 < m → m ≤ 1048576 → Loaded t w f g slots
-loaded t w f g slots n m H a b c d e x y = record { order = a; inside = b; bound = c; some = omega arith; most = omega arith; held = H }
+pub loaded : (t : List ℕ) (w : Layout) (base g : ℕ) (slots : List ℕ) (n m : ℕ) → Held (shift (keyAt t w) base) g slots → base + g ≤ keyCount t w → g ≤ 2097152
+    → length slots ≡ n → n ≡ m → 0 < m → m ≤ 1048576 → Loaded t w base g slots
+loaded t w base g slots n m H b c d e x y = record { inside = b; bound = c; some = omega arith; most = omega arith; held = H }
 
-pub ruleset load-cases = (loaded, kept)
+pub ruleset load-cases = (filled-again, loaded, kept)
 
--- ---- zeros
+-- ---- one number everywhere
 
-pub zeros-none : (t : List ℕ) → ZerosTo 0 t
-zeros-none t = record { at = λ k h. absurd (omega arith) }
+pub filled-none : (v : ℕ) (t : List ℕ) → Filled v 0 t
+filled-none v t = record { at = λ k h. absurd (omega arith) }
 
-module _ (t : List ℕ) (i : ℕ) (Z : ZerosTo i t) where
-  pub zeros-more : i < length t → ZerosTo (i + 1) (set t i 0)
-  zeros-more h = record {
+module _ (v : ℕ) (t : List ℕ) (i : ℕ) (F : Filled v i t) where
+  pub filled-more : i < length t → Filled v (i + 1) (set t i v)
+  filled-more h = record {
     at = λ k g. ⊎-elim
-        (λ e. ap (λ (j : ℕ). getD (set t i 0) j 0) e ∙ getD-set-same t i 0 0 h)
-        (λ n. getD-set-other t i k 0 0 n ∙ Z .at k (omega arith))
+        (λ e. ap (λ (j : ℕ). getD (set t i v) j 0) e ∙ getD-set-same t i v 0 h)
+        (λ n. getD-set-other t i k v 0 n ∙ F .at k (omega arith))
         (eq-or-ne k i);
   }
 
-  pub zeros-all : length t ≤ i → Zeros t
-  zeros-all h = record { at = λ k. go k (lt-or-le k i) }
-    where
-      go : (k : ℕ) → (k < i) ⊎ (i ≤ k) → getD t k 0 ≡ 0
-      go k s = ⊎-elim (λ g. Z .at k g) (λ g. List·getD-eq-default t 0 {n = k} (omega arith)) s
+  pub filled-all : (m : ℕ) → length t ≡ m → length t ≤ i → Filled v m t
+  filled-all m e h = record { at = λ k g. F .at k (omega arith) }
 
-pub ruleset clear-cases = (zeros-none, zeros-more, zeros-all)
+pub ruleset fill-cases = (filled-none, filled-more, filled-all)

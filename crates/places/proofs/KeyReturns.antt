@@ -4,32 +4,70 @@ use mathlib.Core.Bool.{Bool, true, false, _&&_, _||_}
 use mathlib.Core.Path.{_≡_, refl, sym, ap, _∙_}
 use mathlib.Core.List.{List}
 use native.Mathlib.Omega.{arith}
-use borrow.Author.Tests.{le-ltb, lt-ltb, eq-eqb, ne-eqb}
-use lib.Dec.{ltb, eqb}
+use borrow.Author.Tests.{eq-eqb, ne-eqb}
+use lib.Dec.{eqb}
 use lib.ListN.{length, getD}
-use Rattle.places.specs.Key.{sameKey, wordsKey, symbolKey, keyAt, entryCount, treeKey, named, wanted}
+use Rattle.places.specs.Key.{sameKey, wordsKey, symbolKey, keyAt, keyCount, shift, named}
 use Rattle.places.specs.declared.key.Key.{Key}
-use Rattle.places.specs.declared.key.Role.{Role}
-use Rattle.places.specs.declared.key.Role.the-variants.{Open, Close, Symbol}
+use Rattle.places.specs.declared.key.Layout.{Layout}
+use Rattle.places.specs.declared.key.Layout.the-variants.{Part, Symbol, Open, Close, Name}
 
--- ---- an entry
+-- ---- key i
 
-module _ (t : List ℕ) (w : Bool) (i : ℕ) where
-  pub entry-wide : w ≡ true → i < entryCount t w → 3 * i + 3 ≤ length t
-  unfolding entryCount
-  entry-wide e h = let g : i < length t / 3 = rw e at h in omega arith
+module _ (t : List ℕ) (w : Layout) (i : ℕ) (h : i < keyCount t w) where
+  pub part-room : w ≡ Part → 3 * i + 3 ≤ length t
+  unfolding keyCount
+  part-room e = let g : i < length t / 3 = rw e at h in omega arith
 
-  pub entry-narrow : w ≡ false → i < entryCount t w → i < length t
-  unfolding entryCount
-  entry-narrow e h = rw e at h
+  pub symbol-room : w ≡ Symbol → i < length t
+  unfolding keyCount
+  symbol-room e = rw e at h
 
-  pub wide-key : (k : Key) → k ≡ wordsKey t (3 * i) → w ≡ true → k ≡ keyAt t w i
+  pub open-room : w ≡ Open → 13 * i + 13 ≤ length t
+  unfolding keyCount
+  open-room e = let g : i < length t / 13 = rw e at h in omega arith
+
+  pub close-room : w ≡ Close → 13 * i + 13 ≤ length t
+  unfolding keyCount
+  close-room e = let g : i < length t / 13 = rw e at h in omega arith
+
+  pub name-room : w ≡ Name → 13 * i + 13 ≤ length t
+  unfolding keyCount
+  name-room e = let g : i < length t / 13 = rw e at h in omega arith
+
+module _ (t : List ℕ) (w : Layout) (i : ℕ) (k : Key) where
+  pub part-is : w ≡ Part → k ≡ wordsKey t (3 * i) → k ≡ keyAt t w i
   unfolding keyAt
-  wide-key k q e = q ∙ rw e
+  part-is e q = q ∙ rw e
 
-  pub narrow-key : (k : Key) → k ≡ symbolKey (getD t i 0) → w ≡ false → k ≡ keyAt t w i
+  pub symbol-is : w ≡ Symbol → k ≡ symbolKey (getD t i 0) → k ≡ keyAt t w i
   unfolding keyAt
-  narrow-key k q e = q ∙ rw e
+  symbol-is e q = q ∙ rw e
+
+  pub open-is : w ≡ Open → k ≡ wordsKey t (13 * i + 3) → k ≡ keyAt t w i
+  unfolding keyAt
+  open-is e q = q ∙ rw e
+
+  pub close-is : w ≡ Close → k ≡ wordsKey t (13 * i + 8) → k ≡ keyAt t w i
+  unfolding keyAt
+  close-is e q = q ∙ rw e
+
+  pub name-is : w ≡ Name → k ≡ symbolKey (getD t (13 * i + 1) 0) → k ≡ keyAt t w i
+  unfolding keyAt
+  name-is e q = q ∙ rw e
+
+-- the sum of two numbers that name a key is one
+pub count-most : (t : List ℕ) (w : Layout) → keyCount t w ≤ length t
+unfolding keyCount
+count-most t Part = omega arith
+count-most t Symbol = omega arith
+count-most t Open = omega arith
+count-most t Close = omega arith
+count-most t Name = omega arith
+
+pub from-is : (t : List ℕ) (w : Layout) (base i : ℕ) (k : Key) → k ≡ keyAt t w (base + i) → k ≡ shift (keyAt t w) base i
+unfolding shift
+from-is t w base i k e = e
 
 -- ---- two keys
 
@@ -52,50 +90,21 @@ module _ (x y : Key) where
       unfolding sameKey
       all-same h = simp (eq-eqb _ _ e₁, eq-eqb _ _ e₂, eq-eqb _ _ h)
 
--- ---- what a tree looks for
-
-module _ (l : List ℕ) (n : ℕ) (role : Role) where
-  pub open-key : (k : Key) → k ≡ wordsKey l (13 * n + 3) → role ≡ Open → k ≡ treeKey role l n
-  unfolding treeKey
-  open-key k q e = q ∙ rw e
-
-  pub close-key : (k : Key) → k ≡ wordsKey l (13 * n + 8) → role ≡ Close → k ≡ treeKey role l n
-  unfolding treeKey
-  close-key k q e = q ∙ rw e
-
-  pub named-key : (k : Key) → k ≡ symbolKey (getD l (13 * n + 1) 0) → role ≡ Symbol → k ≡ treeKey role l n
-  unfolding treeKey
-  named-key k q e = q ∙ rw e
+-- ---- a tree's sort
 
 module _ (sort : ℕ) where
   pub named-ident : sort ≡ 1 → true ≡ named sort
+  unfolding named
   named-ident h = simp (eq-eqb _ _ h)
 
   module _ (g : sort ≡ 1 → ⊥) where
     pub named-literal : sort ≡ 2 → true ≡ named sort
+    unfolding named
     named-literal h = simp (ne-eqb _ _ g, eq-eqb _ _ h)
 
     pub named-neither : (sort ≡ 2 → ⊥) → false ≡ named sort
+    unfolding named
     named-neither h = simp (ne-eqb _ _ g, ne-eqb _ _ h)
 
-  pub subtree-sort : 2 < sort → true ≡ ltb 2 sort
-  subtree-sort h = simp (lt-ltb _ _ h)
-
-  pub leaf-sort : sort ≤ 2 → false ≡ ltb 2 sort
-  leaf-sort h = simp (le-ltb _ _ h)
-
-  module _ (role : Role) where
-    pub wanted-open : role ≡ Open → true ≡ wanted role sort
-    unfolding wanted
-    wanted-open e = rw e
-
-    pub wanted-close : role ≡ Close → (b : Bool) → b ≡ ltb 2 sort → b ≡ wanted role sort
-    unfolding wanted
-    wanted-close e b q = q ∙ rw e
-
-    pub wanted-symbol : role ≡ Symbol → (b : Bool) → b ≡ named sort → b ≡ wanted role sort
-    unfolding wanted
-    wanted-symbol e b q = q ∙ rw e
-
 pub ruleset key-cases =
-    (entry-wide, entry-narrow, wide-key, narrow-key, file-differs, ast-differs, context-differs, all-same, open-key, close-key, named-key, named-ident, named-literal, named-neither, subtree-sort, leaf-sort, wanted-open, wanted-close, wanted-symbol)
+    (part-room, symbol-room, open-room, close-room, name-room, part-is, symbol-is, open-is, close-is, name-is, from-is, file-differs, ast-differs, context-differs, all-same, named-ident, named-literal, named-neither)

@@ -1,9 +1,10 @@
+pub mod Cases
 pub mod FindLaw
 pub mod KeyReturns
 pub mod ProbeLaw
 pub mod IndexLaw
 pub mod IndexReturns
-pub mod PortionsReturns
+pub mod StreamReturns
 pub mod TreeLaw
 pub mod WholeReturns
 pub mod ResolveReturns

@@ -5,7 +5,6 @@ use mathlib.Core.Logic.{_⊎_, inl, inr, ⊎-elim}
 use mathlib.Core.Path.{_≡_, refl, ap, sym, _∙_, subst}
 use mathlib.Core.List.{List, [], _∷_}
 use native.Mathlib.Omega.{arith}
-use native.Mathlib.Decide.{ℕ-discrete}
 use lib.ListN.{length, getD, set}
 use lib.Seq.{getD-set-same, getD-set-other}
 use lib.Dec.{ltb, eqb}
@@ -14,6 +13,7 @@ use Rattle.format.specs.Test.{if_then_else_}
 use Rattle.places.specs.Index.{probe, atSlot, nextSlot, occupied}
 use Rattle.places.specs.declared.index.Looked.{Looked}
 use Rattle.places.specs.declared.index.Looked.the-variants.{Found, Empty, Full}
+use Rattle.places.proofs.Cases.{eq-or-ne}
 
 abbrev number : Looked → ℕ
 number (Found e) = 0
@@ -37,9 +37,6 @@ inside Full = 0
 -- the search found nothing
 abbrev pub Nothing : Looked → Type 0
 Nothing q = (e : ℕ) → q ≡ Found e → ⊥
-
-eq-or-ne : (a b : ℕ) → (a ≡ b) ⊎ (a ≡ b → ⊥)
-eq-or-ne a b = elim (ℕ-discrete a b) [ yes h ↦ inl h | no n ↦ inr n ]
 
 -- ---- what a search that found nothing passed
 

@@ -1,28 +1,53 @@
 -- One law for each return of the functions of src/resolve.rt.
 use Prim.Native.Nat.{ℕ, _+_, _*_, _-_, _/_, _≤_, _<_}
 use mathlib.Core.Bool.{Bool, true, false, _&&_}
-use mathlib.Core.Path.{_≡_, refl, sym, subst, _∙_}
+use mathlib.Core.Path.{_≡_, refl, sym, ap, subst, _∙_}
 use mathlib.Core.List.{List}
 use native.Mathlib.Omega.{arith}
 use borrow.Author.Tests.{leb-true, le-leb, lt-leb}
 use lib.Dec.{leb}
 use lib.ListN.{length, getD}
+use Rattle.format.specs.WordList.{wordOf, rawFrom, listCount}
+use Rattle.format.specs.Writer.{find, rawOf}
 use Rattle.format.proofs.Each.{and-left, and-right}
-use Rattle.places.specs.Key.{keyAt, entryCount}
+use Rattle.places.specs.Key.{keyAt, keyCount, shift, isKey}
 use Rattle.places.specs.Index.{portion, Loaded, Ready}
-use Rattle.places.specs.Places.{Resolved, Placed, PartsPlaced, Roomy, Indexed, Whole}
-use Rattle.places.specs.declared.key.Role.the-variants.{Open, Close, Symbol}
-use Rattle.places.proofs.PortionsReturns.{ready-whole}
-use Rattle.places.proofs.TreeLaw.{placed-resolved}
+use Rattle.places.specs.Places.{Resolved, Placed, Streamed, Roomy, Indexed, Whole, Least}
+use Rattle.places.specs.declared.key.Key.{Key}
+use Rattle.places.specs.declared.key.Layout.{Layout}
+use Rattle.places.specs.declared.key.Layout.the-variants.{Part, Symbol, Open, Close, Name}
+use Rattle.places.proofs.TreeLaw.{tree-raw}
+
+-- ---- what the slots hold
+
+module _ (t : List ℕ) (w : Layout) (n : ℕ) (slots : List ℕ) where
+  pub ready-large : (most : ℕ) → most ≡ portion (length slots) → most < n → Ready t w n slots
+  ready-large most e h = record { held = λ k. absurd (omega arith) }
+
+  pub ready-loaded : Loaded t w 0 n slots → Ready t w n slots
+  ready-loaded L = record { held = λ k. L .held }
+
+  pub none-before : n ≤ keyCount t w → 0 + n ≤ keyCount t w
+  none-before h = omega arith
+
+  pub ready-whole : Ready t w n slots → n ≤ portion (length slots) → n ≤ keyCount t w → n ≤ 2097152 → 0 < length slots → length slots ≤ 1048576 → Loaded t w 0 n slots
+  ready-whole R h a b c d = record { inside = none-before a; bound = b; some = c; most = d; held = R .held h }
+
+pub portion-fits : (n most m : ℕ) → most ≡ portion m → n ≤ most → n ≤ m
+portion-fits n most m e h = omega arith
+
+pub ruleset build-one-cases = (ready-large, ready-loaded, none-before, portion-fits)
+
+-- ---- sizes
+
+pub symbols-inside : (symbols : List ℕ) → length symbols ≤ keyCount symbols Symbol
+unfolding keyCount
+symbols-inside symbols = omega arith
 
 module _ (parts symbols : List ℕ) where
-  pub parts-inside : (p : ℕ) → p ≡ length parts / 3 - 2 → p ≤ entryCount parts true
-  unfolding entryCount
+  pub parts-inside : (p : ℕ) → p ≡ length parts / 3 - 2 → p ≤ keyCount parts Part
+  unfolding keyCount
   parts-inside p e = omega arith
-
-  pub all-symbols : length symbols ≤ entryCount symbols false
-  unfolding entryCount
-  all-symbols = omega arith
 
   module _ (a b : ℕ) (R : Roomy (length parts) (length symbols) a b) where
     pub parts-most : (p : ℕ) → p ≡ length parts / 3 - 2 → p ≤ 2097152
@@ -46,24 +71,15 @@ module _ (parts symbols : List ℕ) where
     pub other-most : b ≤ 1048576
     other-most = R .mostSymbol
 
-  module _ (p : ℕ) (e : p ≡ length parts / 3 - 2) where
-    pub indexed : (ps ss : List ℕ) → Ready (keyAt parts true) p ps → Ready (keyAt symbols false) (length symbols) ss → Indexed parts symbols ps ss
-    indexed ps ss P S = record { ofParts = subst (λ (n : ℕ). Ready (keyAt parts true) n ps) e P; ofSymbols = S }
+    pub roomy-kept : (c d : ℕ) → c ≡ a → d ≡ b → Roomy (length parts) (length symbols) c d
+    roomy-kept c d e f = rw (e, f) R
 
-    pub indexed-parts : (ps ss : List ℕ) → Indexed parts symbols ps ss → Ready (keyAt parts true) p ps
-    indexed-parts ps ss I = subst (λ (n : ℕ). Ready (keyAt parts true) n ps) (sym e) (I .ofParts)
+  pub indexed : (p : ℕ) → p ≡ length parts / 3 - 2 → (ps ss : List ℕ) → Ready parts Part p ps → Ready symbols Symbol (length symbols) ss → Indexed parts symbols ps ss
+  indexed p e ps ss P S = record { ofParts = subst (λ (n : ℕ). Ready parts Part n ps) e P; ofSymbols = S }
 
-    pub all-resolved : (l : List ℕ) (from m : ℕ) (opens closes syms : List ℕ) → 1 ≤ from → PartsPlaced parts l from p opens closes
-        → Placed (keyAt symbols false) Symbol l from (length symbols) syms → length opens ≡ m → (a b : ℕ) → length closes ≡ a → a ≡ m → length syms ≡ b → b ≡ m
-        → Resolved parts symbols l from m opens closes syms
-    all-resolved l from m opens closes syms h P S lo a b lc ac ls bs =
-        placed-resolved parts symbols l from m opens closes syms h lo (lc ∙ ac) (ls ∙ bs)
-        (subst (λ (n : ℕ). Placed (keyAt parts true) Open l from n opens) e (P .opening))
-        (subst (λ (n : ℕ). Placed (keyAt parts true) Close l from n closes) e (P .closing))
-        S
+pub ruleset size-cases = (parts-inside, symbols-inside, parts-most, symbols-most, symbols-below, slots-some, slots-most, other-some, other-most, roomy-kept)
 
-  pub indexed-symbols : (ps ss : List ℕ) → Indexed parts symbols ps ss → Ready (keyAt symbols false) (length symbols) ss
-  indexed-symbols ps ss I = I .ofSymbols
+pub ruleset build-cases = (size-cases, indexed)
 
 -- ---- both tables whole
 
@@ -86,14 +102,66 @@ pub ruleset are-whole-cases = (parts-large, symbols-large, both-whole)
 pub indexed-whole : (parts symbols ps ss : List ℕ) (g : ℕ) (b : Bool) → g ≡ length parts / 3 - 2 → Roomy (length parts) (length symbols) (length ps) (length ss) → Indexed parts symbols ps ss
     → b ≡ (leb g (portion (length ps)) && leb (length symbols) (portion (length ss))) → b ≡ true → Whole parts symbols ps ss g
 indexed-whole parts symbols ps ss g b e R I w h =
-    let both = sym w ∙ h in
-    let p : g ≤ portion (length ps) = leb-true _ _ (and-left (leb g (portion (length ps))) (leb (length symbols) (portion (length ss))) both) in
-    let s : length symbols ≤ portion (length ss) = leb-true _ _ (and-right (leb g (portion (length ps))) (leb (length symbols) (portion (length ss))) both) in
+    let x = leb g (portion (length ps)) in
+    let y = leb (length symbols) (portion (length ss)) in
+    let p : g ≤ portion (length ps) = leb-true _ _ (and-left x y (sym w ∙ h)) in
+    let s : length symbols ≤ portion (length ss) = leb-true _ _ (and-right x y (sym w ∙ h)) in
+    let r : Ready parts Part g ps = subst (λ (n : ℕ). Ready parts Part n ps) (sym e) (I .ofParts) in
+    let m = parts-most parts symbols (length ps) (length ss) R g e in
+    let n = symbols-below parts symbols (length ps) (length ss) R in
     record {
       count = e;
-      ofParts = ready-whole parts true g ps (indexed-parts parts symbols g e ps ss I) (portion (length ps)) refl p (parts-inside parts symbols g e) (parts-most parts symbols (length ps) (length ss) R g e) (R .somePart) (R .mostPart);
-      ofSymbols = ready-whole symbols false (length symbols) ss (I .ofSymbols) (portion (length ss)) refl s (all-symbols parts symbols) (symbols-below parts symbols (length ps) (length ss) R) (R .someSymbol) (R .mostSymbol);
+      ofParts = ready-whole parts Part g ps r p (parts-inside parts symbols g e) m (R .somePart) (R .mostPart);
+      ofSymbols = ready-whole symbols Symbol (length symbols) ss (I .ofSymbols) s (symbols-inside symbols) n (R .someSymbol) (R .mostSymbol);
     }
 
-pub ruleset resolve-cases =
-    (parts-inside, all-symbols, parts-most, symbols-most, symbols-below, slots-some, slots-most, other-some, other-most, indexed, indexed-parts, indexed-symbols, all-resolved, indexed-whole)
+-- ---- tables that are read through
+
+pub least-first : (a b : ℕ) → Least a b a
+least-first a b = record { at = λ j h k. h }
+
+pub least-second : (a b : ℕ) → Least a b b
+least-second a b = record { at = λ j h k. k }
+
+pub ruleset least-cases = (least-first, least-second)
+
+module _ (l : List ℕ) (n : ℕ) (h : n ≤ length l / 13) where
+  pub opens-inside : n ≤ keyCount l Open
+  unfolding keyCount
+  opens-inside = h
+
+  pub closes-inside : n ≤ keyCount l Close
+  unfolding keyCount
+  closes-inside = h
+
+  pub names-inside : n ≤ keyCount l Name
+  unfolding keyCount
+  names-inside = h
+
+pub streamed : (parts symbols l : List ℕ) (g from m : ℕ) (opens closes syms : List ℕ) → Placed parts Part g l Open from m opens → Placed parts Part g l Close from m closes
+    → Placed symbols Symbol (length symbols) l Name from m syms → Streamed parts symbols l g from m opens closes syms
+streamed parts symbols l g from m opens closes syms O C S = record { opening = O; closing = C; symbol = S }
+
+pub ruleset stream-cases = (size-cases, opens-inside, closes-inside, names-inside, streamed)
+
+module _ (parts symbols l : List ℕ) (from : ℕ) (opens closes syms : List ℕ) where
+  pub stream-none : (m : ℕ) → length l / 13 ≤ from → Resolved parts symbols l from m opens closes syms
+  stream-none m h = record { at = λ j k q. absurd (omega arith) }
+
+  pub stream-resolved : (g m r : ℕ) → g ≡ length parts / 3 - 2 → 1 ≤ from → from < length l / 13 → Least (length l / 13 - from) m r → Streamed parts symbols l g from r opens closes syms
+      → Resolved parts symbols l from m opens closes syms
+  stream-resolved g m r e h k L S = record {
+    at = λ j u q.
+        let v : j < r = L .at j (omega arith) u in
+        tree-raw parts symbols l (from + j) (getD opens j 0) (getD closes j 0) (getD syms j 0) (omega arith)
+        (S .opening .done j v ∙ to (keyAt l Open (from + j)))
+        (λ w. S .closing .done j v ∙ to (keyAt l Close (from + j)))
+        (λ w. S .symbol .done j v);
+  }
+    where
+      to : (x : Key) → find (isKey (keyAt parts Part) x) g 0 ≡ find (isKey (keyAt parts Part) x) (length parts / 3 - 2) 0
+      to x = ap (λ (n : ℕ). find (isKey (keyAt parts Part) x) n 0) e
+
+pub ruleset resolve-stream-cases = (size-cases, stream-none, stream-resolved)
+
+pub ruleset resolve-cases = (size-cases, indexed-whole)

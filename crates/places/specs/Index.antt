@@ -1,4 +1,4 @@
--- A hash index of entries: slot s holds 0, or one more than an entry's number; a key is looked for from its slot on, round the end.
+-- A hash index of keys: slot s holds 0, or one more than a key's number; a key is looked for from its slot on, round the end.
 use Prim.Native.Nat.{ℕ, zero, suc, _+_, _*_, _-_, _/_, _%_, _<_, _≤_}
 use mathlib.Core.Bool.{Bool, true, false}
 use mathlib.Core.Path.{_≡_}
@@ -7,8 +7,9 @@ use lib.ListN.{length, getD}
 use lib.Dec.{ltb, eqb}
 use Rattle.format.specs.Test.{if_then_else_}
 use Rattle.format.specs.Writer.{find}
-use Rattle.places.specs.Key.{isKey, keyAt, entryCount}
+use Rattle.places.specs.Key.{isKey, keyAt, keyCount, shift}
 use Rattle.places.specs.declared.key.Key.{Key}
+use Rattle.places.specs.declared.key.Layout.{Layout}
 use Rattle.places.specs.declared.index.Looked.{Looked}
 use Rattle.places.specs.declared.index.Looked.the-variants.{Found, Empty, Full}
 
@@ -23,52 +24,57 @@ abbrev pub atSlot : ℕ → ℕ → (ℕ → Bool) → Looked → Looked
 atSlot zero s test rest = Empty s
 atSlot (suc e) s test rest = if test e then Found e else rest
 
--- the first slot of so many from s on that is empty or whose entry passes the test
+-- the first slot of so many from s on that is empty or whose key passes the test
 unfoldable pub probe : ℕ → List ℕ → (ℕ → Bool) → ℕ → ℕ → Looked
 probe size t test s zero = Full
 probe size t test s (suc left) = atSlot (getD t s 0) s test (probe size t test (nextSlot size s) left)
 
--- how many slots hold an entry
+-- the search for a key, from a slot on
+abbrev pub probeFor : (ℕ → Key) → Key → List ℕ → ℕ → ℕ → Looked
+probeFor key k slots start left = probe (length slots) slots (isKey key k) start left
+
+-- how many slots hold a key
 unfoldable pub occupied : List ℕ → ℕ
 occupied [] = 0
 occupied (zero ∷ t) = occupied t
 occupied (suc e ∷ t) = suc (occupied t)
 
--- of the entries f to g - 1, one that has none of its like before it
-pub record Leads (key : ℕ → Key) (f g r : ℕ) : Type 0 where
-  pub from : f ≤ r
+-- of the keys 0 to g - 1, one that has none of its like before it
+pub record Leads (key : ℕ → Key) (g r : ℕ) : Type 0 where
   pub to : r < g
-  pub first : find (isKey key (key r)) (r - f) f ≡ r
+  pub first : find (isKey key (key r)) r 0 ≡ r
 
--- the slots when the entries f to g - 1 are entered
-pub record Held (key : ℕ → Key) (f g : ℕ) (slots : List ℕ) : Type 0 where
-  pub entry : (s : ℕ) → 0 < getD slots s 0 → Leads key f g (getD slots s 0 - 1)
-  pub reach : (r : ℕ) → Leads key f g r → probe (length slots) slots (λ e. eqb e r) (slotOf (key r) (length slots)) (length slots) ≡ Found r
-  pub few : occupied slots ≤ g - f
+-- the slots when the keys 0 to g - 1 are entered
+pub record Held (key : ℕ → Key) (g : ℕ) (slots : List ℕ) : Type 0 where
+  pub entry : (s : ℕ) → 0 < getD slots s 0 → Leads key g (getD slots s 0 - 1)
+  pub reach : (r : ℕ) → Leads key g r → probe (length slots) slots (λ e. eqb e r) (slotOf (key r) (length slots)) (length slots) ≡ Found r
+  pub few : occupied slots ≤ g
 
--- the index of the entries f to g - 1 of a table, as a look-up asks for it
-pub record Loaded (t : List ℕ) (wide : Bool) (f g : ℕ) (slots : List ℕ) : Type 0 where
-  pub order : f ≤ g
-  pub inside : g ≤ entryCount t wide
+-- the index of g keys of a run of words from key `base` on, as a look-up asks for it
+pub record Loaded (t : List ℕ) (layout : Layout) (base g : ℕ) (slots : List ℕ) : Type 0 where
+  pub inside : base + g ≤ keyCount t layout
   pub bound : g ≤ 2097152
   pub some : 0 < length slots
   pub most : length slots ≤ 1048576
-  pub held : Held (keyAt t wide) f g slots
+  pub held : Held (shift (keyAt t layout) base) g slots
 
--- no slot holds more than n
-pub record UpTo (n : ℕ) (slots : List ℕ) : Type 0 where
-  pub at : (s : ℕ) → getD slots s 0 ≤ n
+-- what a search for a key among g of them says: the first place where it stands, or that it does not
+pub record Finds (key : ℕ → Key) (g : ℕ) (k : Key) (r : Looked) : Type 0 where
+  pub found : (j : ℕ) → r ≡ Found j → Leads key g j × (key j ≡ k)
+  pub none : ((j : ℕ) → r ≡ Found j → ⊥) → (j : ℕ) → j < g → key j ≡ k → ⊥
 
--- how many entries are entered at a time
+-- every slot names a key of the run of words
+pub record Within (t : List ℕ) (layout : Layout) (base : ℕ) (slots : List ℕ) : Type 0 where
+  pub at : (s : ℕ) → base + getD slots s 0 ≤ keyCount t layout
+
+-- how many keys are entered at a time
 abbrev pub portion : ℕ → ℕ
 portion size = (size + 1) / 2
 
 -- between two calls: a table of n entries that is one portion is entered whole
-pub record Ready (key : ℕ → Key) (n : ℕ) (slots : List ℕ) : Type 0 where
-  pub held : n ≤ portion (length slots) → Held key 0 n slots
+pub record Ready (t : List ℕ) (layout : Layout) (n : ℕ) (slots : List ℕ) : Type 0 where
+  pub held : n ≤ portion (length slots) → Held (shift (keyAt t layout) 0) n slots
 
-pub record Zeros (t : List ℕ) : Type 0 where
-  pub at : (k : ℕ) → getD t k 0 ≡ 0
-
-pub record ZerosTo (i : ℕ) (t : List ℕ) : Type 0 where
-  pub at : (k : ℕ) → k < i → getD t k 0 ≡ 0
+-- a run that holds one number, up to i
+pub record Filled (v i : ℕ) (t : List ℕ) : Type 0 where
+  pub at : (k : ℕ) → k < i → getD t k 0 ≡ v

@@ -1,13 +1,12 @@
 -- Keys of three words: "A span part is file, ast id and context"; a symbol is one word, and two zeros make it a key.
 use Prim.Native.Nat.{ℕ, _+_, _*_, _/_}
-use mathlib.Core.Bool.{Bool, true, false, _&&_, _||_}
+use mathlib.Core.Bool.{Bool, _&&_, _||_}
 use mathlib.Core.List.{List}
 use lib.ListN.{length, getD}
-use lib.Dec.{ltb, eqb}
-use Rattle.format.specs.WordList.{wordOf}
+use lib.Dec.{eqb}
 use Rattle.places.specs.declared.key.Key.{Key}
-use Rattle.places.specs.declared.key.Role.{Role}
-use Rattle.places.specs.declared.key.Role.the-variants.{Open, Close, Symbol}
+use Rattle.places.specs.declared.key.Layout.{Layout}
+use Rattle.places.specs.declared.key.Layout.the-variants.{Part, Symbol, Open, Close, Name}
 
 unfoldable pub sameKey : Key → Key → Bool
 sameKey x y = eqb (x .file) (y .file) && eqb (x .«ast_id») (y .«ast_id») && eqb (x .context) (y .context)
@@ -19,31 +18,30 @@ wordsKey t i = record { file = getD t i 0; «ast_id» = getD t (i + 1) 0; contex
 abbrev pub symbolKey : ℕ → Key
 symbolKey y = record { file = y; «ast_id» = 0; context = 0 }
 
--- entry i of a part table (true) or of a symbol table
-unfoldable pub keyAt : List ℕ → Bool → ℕ → Key
-keyAt t true i = wordsKey t (3 * i)
-keyAt t false i = symbolKey (getD t i 0)
+-- key i of a run of words: entry i of a table; the open part, the close part, the symbol of tree i of a list
+unfoldable pub keyAt : List ℕ → Layout → ℕ → Key
+keyAt t Part i = wordsKey t (3 * i)
+keyAt t Symbol i = symbolKey (getD t i 0)
+keyAt t Open i = wordsKey t (13 * i + 3)
+keyAt t Close i = wordsKey t (13 * i + 8)
+keyAt t Name i = symbolKey (getD t (13 * i + 1) 0)
 
-unfoldable pub entryCount : List ℕ → Bool → ℕ
-entryCount t true = length t / 3
-entryCount t false = length t
+-- how many keys there are
+unfoldable pub keyCount : List ℕ → Layout → ℕ
+keyCount t Part = length t / 3
+keyCount t Symbol = length t
+keyCount t Open = length t / 13
+keyCount t Close = length t / 13
+keyCount t Name = length t / 13
 
--- whether entry i has this key
+-- the keys from one on
+unfoldable pub shift : (ℕ → Key) → ℕ → ℕ → Key
+shift key base i = key (base + i)
+
+-- whether key i is this one
 unfoldable pub isKey : (ℕ → Key) → Key → ℕ → Bool
 isKey key k i = sameKey (key i) k
 
--- what tree n looks for: its open part, its close part, its symbol
-unfoldable pub treeKey : Role → List ℕ → ℕ → Key
-treeKey Open l n = wordsKey l (13 * n + 3)
-treeKey Close l n = wordsKey l (13 * n + 8)
-treeKey Symbol l n = symbolKey (getD l (13 * n + 1) 0)
-
 -- an ident or a literal has a symbol
-abbrev pub named : ℕ → Bool
+unfoldable pub named : ℕ → Bool
 named sort = eqb sort 1 || eqb sort 2
-
--- of which sorts it has one: a subtree alone a close part
-unfoldable pub wanted : Role → ℕ → Bool
-wanted Open sort = true
-wanted Close sort = ltb 2 sort
-wanted Symbol sort = named sort

@@ -1,16 +1,17 @@
 -- What the indices of a run of trees are, and what slots hold between two calls.
-use Prim.Native.Nat.{ℕ, _+_, _*_, _-_, _/_, _<_, _≤_}
-use mathlib.Core.Bool.{Bool, true, false}
+use Prim.Native.Nat.{ℕ, _+_, _-_, _/_, _<_, _≤_}
+use mathlib.Core.Bool.{Bool}
 use mathlib.Core.Path.{_≡_}
 use mathlib.Core.List.{List}
 use lib.ListN.{length, getD}
+use lib.Dec.{ltb}
+use Rattle.format.specs.Test.{if_then_else_}
 use Rattle.format.specs.WordList.{wordOf, rawFrom, listCount}
 use Rattle.format.specs.Writer.{find, rawOf}
-use Rattle.places.specs.Key.{keyAt, isKey, treeKey, wanted}
-use Rattle.places.specs.Index.{Loaded, Ready}
-use Rattle.places.specs.declared.key.Key.{Key}
-use Rattle.places.specs.declared.key.Role.{Role}
-use Rattle.places.specs.declared.key.Role.the-variants.{Open, Close}
+use Rattle.places.specs.Key.{keyAt, isKey, shift}
+use Rattle.places.specs.Index.{Leads, Loaded, Ready}
+use Rattle.places.specs.declared.key.Layout.{Layout}
+use Rattle.places.specs.declared.key.Layout.the-variants.{Part, Symbol, Open, Close, Name}
 
 -- of trees from, from + 1, .. (m of them, as far as they exist) the indices that they use: "A part's index is its first place before those two, a symbol's its first place."
 pub record Resolved (parts symbols l : List ℕ) (from m : ℕ) (opens closes syms : List ℕ) : Type 0 where
@@ -28,28 +29,40 @@ pub record Roomy (parts symbols partSlots symbolSlots : ℕ) : Type 0 where
 
 -- what slots hold between two calls
 pub record Indexed (parts symbols partSlots symbolSlots : List ℕ) : Type 0 where
-  pub ofParts : Ready (keyAt parts true) (length parts / 3 - 2) partSlots
-  pub ofSymbols : Ready (keyAt symbols false) (length symbols) symbolSlots
+  pub ofParts : Ready parts Part (length parts / 3 - 2) partSlots
+  pub ofSymbols : Ready symbols Symbol (length symbols) symbolSlots
 
 -- both tables are indexed whole, the parts but for the last two, which are behind the first g
 pub record Whole (parts symbols partSlots symbolSlots : List ℕ) (g : ℕ) : Type 0 where
   pub count : g ≡ length parts / 3 - 2
-  pub ofParts : Loaded parts true 0 g partSlots
-  pub ofSymbols : Loaded symbols false 0 (length symbols) symbolSlots
+  pub ofParts : Loaded parts Part 0 g partSlots
+  pub ofSymbols : Loaded symbols Symbol 0 (length symbols) symbolSlots
 
--- one index of each tree of a run that begins at tree `from`: the key's first place among the first g entries
-pub record Placed (key : ℕ → Key) (role : Role) (l : List ℕ) (from g : ℕ) (out : List ℕ) : Type 0 where
-  pub at : (j : ℕ) → j < length out → from + j < listCount l → wanted role (wordOf l (from + j) 0) ≡ true
-      → getD out j 0 ≡ find (isKey key (treeKey role l (from + j))) g 0
+-- ---- a table that is read through once for a run of keys: those of the trees `from`, from + 1, ..
 
--- both part indices of each tree
-pub record PartsPlaced (parts l : List ℕ) (from g : ℕ) (opens closes : List ℕ) : Type 0 where
-  pub opening : Placed (keyAt parts true) Open l from g opens
-  pub closing : Placed (keyAt parts true) Close l from g closes
+-- the first d have their first place among the n entries, the others have n
+pub record Placed (t : List ℕ) (table : Layout) (n : ℕ) (l : List ℕ) (keys : Layout) (from d : ℕ) (out : List ℕ) : Type 0 where
+  pub done : (j : ℕ) → j < d → getD out j 0 ≡ find (isKey (keyAt t table) (keyAt l keys (from + j))) n 0
+  pub todo : (j : ℕ) → d ≤ j → j < length out → getD out j 0 ≡ n
 
--- the same while it is made: the trees before i among the first g entries, the others among the first f
-pub record Midway (key : ℕ → Key) (role : Role) (l : List ℕ) (from f g i : ℕ) (out : List ℕ) : Type 0 where
-  pub done : (j : ℕ) → j < i → from + j < listCount l → wanted role (wordOf l (from + j) 0) ≡ true
-      → getD out j 0 ≡ find (isKey key (treeKey role l (from + j))) g 0
-  pub todo : (j : ℕ) → i ≤ j → j < length out → from + j < listCount l → wanted role (wordOf l (from + j) 0) ≡ true
-      → getD out j 0 ≡ find (isKey key (treeKey role l (from + j))) f 0
+-- the first place among the first e of n entries, n if there is none yet
+unfoldable pub soFar : (ℕ → Bool) → ℕ → ℕ → ℕ
+soFar test n e = if ltb (find test e 0) e then find test e 0 else n
+
+-- while the keys a to a + m - 1 are looked for, the first of which is that of tree `base`: of those that lead, the place among the first e entries
+pub record Midway (t : List ℕ) (table : Layout) (n : ℕ) (l : List ℕ) (keys : Layout) (from base a m d e : ℕ) (out : List ℕ) : Type 0 where
+  pub begin : base ≡ from + a
+  pub room : a + m ≤ length out
+  pub done : (j : ℕ) → j < d → getD out j 0 ≡ find (isKey (keyAt t table) (keyAt l keys (from + j))) n 0
+  pub todo : (j : ℕ) → a + m ≤ j → j < length out → getD out j 0 ≡ n
+  pub leads : (j : ℕ) → Leads (shift (keyAt l keys) base) m j → getD out (a + j) 0 ≡ soFar (isKey (keyAt t table) (shift (keyAt l keys) base j)) n e
+
+-- the first m trees of the run
+pub record Streamed (parts symbols l : List ℕ) (g from m : ℕ) (opens closes syms : List ℕ) : Type 0 where
+  pub opening : Placed parts Part g l Open from m opens
+  pub closing : Placed parts Part g l Close from m closes
+  pub symbol : Placed symbols Symbol (length symbols) l Name from m syms
+
+-- r is no less than both bounds allow
+pub record Least (a b r : ℕ) : Type 0 where
+  pub at : (j : ℕ) → j < a → j < b → j < r

@@ -1,16 +1,16 @@
-// A hash index of a table's entries, or of a portion of them: of entries that are alike the first is entered.
+// A hash index of keys: of those that are alike the first is entered.
 use crate::key::Key;
-use crate::key::key_at;
+use crate::key::Layout;
+use crate::key::key_from;
 use crate::key::same_key;
 ghost use mathlib.Core.Path.{_≡_};
 ghost use Prim.Native.Nat.{_+_, _*_, _-_, _/_, _<_, _≤_};
 ghost use lib.ListN.{length};
-ghost use Rattle.format.specs.Writer.{find};
-ghost use Rattle.places.specs.Key.{keyAt, entryCount, isKey};
-ghost use Rattle.places.specs.Index.{slotOf, nextSlot, probe, portion, Held, Loaded, UpTo, Zeros};
+ghost use Rattle.places.specs.Key.{keyAt, keyCount, shift};
+ghost use Rattle.places.specs.Index.{slotOf, nextSlot, probeFor, portion, Held, Loaded, Within, Finds, Filled};
 
 pub enum Looked {
-    // An entry.
+    // A key's number.
     Found(usize),
     // A slot.
     Empty(usize),
@@ -61,11 +61,11 @@ fn next_slot(s: usize, slots: usize) -> usize
     0
 }
 
-// Looks for a key from a slot on.
-fn look(t: &[u32], wide: bool, slots: &[u32], k: Key, start: usize) -> Looked
+// Looks for a key from a slot on, among the keys of t from `base` on.
+fn look(t: &[u32], layout: Layout, base: usize, slots: &[u32], k: Key, start: usize) -> Looked
     requires { ⌜ start < length (now slots) ⌝ }
-    requires { ⌜ UpTo (entryCount (now t) wide) (now slots) ⌝ }
-    ensures { λ r. ⌜ r ≡ probe (length (now (slots .entry))) (now (slots .entry)) (isKey (keyAt (now (t .entry)) wide) k) start (length (now (slots .entry))) ⌝ }
+    requires { ⌜ Within (now t) layout base (now slots) ⌝ }
+    ensures { λ r. ⌜ r ≡ probeFor (shift (keyAt (now (t .entry)) layout) base) k (now (slots .entry)) start (length (now (slots .entry))) ⌝ }
 {
     let mut s = start;
     let mut left = slots.len();
@@ -74,7 +74,7 @@ fn look(t: &[u32], wide: bool, slots: &[u32], k: Key, start: usize) -> Looked
         if e == 0 {
             return Looked::Empty(s);
         }
-        let there = key_at(t, wide, e - 1);
+        let there = key_from(t, layout, base, e - 1);
         if same_key(there, k) {
             return Looked::Found(e - 1);
         }
@@ -84,29 +84,25 @@ fn look(t: &[u32], wide: bool, slots: &[u32], k: Key, start: usize) -> Looked
     Looked::Full
 }
 
-// The first of the entries f to g - 1 that has this key, else g.
-pub fn first_in(t: &[u32], wide: bool, slots: &[u32], f: usize, g: usize, k: Key) -> usize
-    requires { ⌜ Loaded (now t) wide f g (now slots) ⌝ }
-    ensures { λ r. ⌜ r ≡ find (isKey (keyAt (now (t .entry)) wide) k) (g - f) f ⌝ }
-    ensures { λ r. ⌜ r ≤ g ⌝ }
+// Looks for a key.
+pub fn find_key(t: &[u32], layout: Layout, base: usize, slots: &[u32], g: usize, k: Key) -> Looked
+    requires { ⌜ Loaded (now t) layout base g (now slots) ⌝ }
+    ensures { λ r. ⌜ Finds (shift (keyAt (now (t .entry)) layout) base) g k r ⌝ }
 {
     let start = slot_of(k, slots.len());
-    match look(t, wide, slots, k, start) {
-        Looked::Found(e) => e,
-        Looked::Empty(_) => g,
-        Looked::Full => g,
-    }
+    look(t, layout, base, slots, k, start)
 }
 
-// Enters entry g.
-fn enter(t: &[u32], wide: bool, slots: &mut [u32], f: usize, g: usize)
-    requires { ⌜ (f ≤ g) × (g < entryCount (now t) wide) × (g < 2097152) × (length (now slots) ≤ 1048576) × (g - f < length (now slots)) ⌝ }
-    requires { ⌜ Held (keyAt (now t) wide) f g (now slots) ⌝ }
-    ensures { λ _. ⌜ Held (keyAt (now (t .entry)) wide) f (g + 1) (now (slots .exit)) ⌝ }
+// Enters key g.
+fn enter(t: &[u32], layout: Layout, base: usize, slots: &mut [u32], g: usize)
+    requires { ⌜ (base + g < keyCount (now t) layout) × (g < 2097152) ⌝ }
+    requires { ⌜ (g < length (now slots)) × (length (now slots) ≤ 1048576) ⌝ }
+    requires { ⌜ Held (shift (keyAt (now t) layout) base) g (now slots) ⌝ }
+    ensures { λ _. ⌜ Held (shift (keyAt (now (t .entry)) layout) base) (g + 1) (now (slots .exit)) ⌝ }
 {
-    let k = key_at(t, wide, g);
+    let k = key_from(t, layout, base, g);
     let start = slot_of(k, slots.len());
-    match look(t, wide, slots, k, start) {
+    match look(t, layout, base, slots, k, start) {
         Looked::Found(_) => {}
         Looked::Empty(s) => {
             slots[s] = (g + 1) as u32;
@@ -115,40 +111,41 @@ fn enter(t: &[u32], wide: bool, slots: &mut [u32], f: usize, g: usize)
     }
 }
 
-// Enters the entries f to g - 1.
-fn fill(t: &[u32], wide: bool, slots: &mut [u32], f: usize, g: usize)
-    requires { ⌜ (f ≤ g) × (g ≤ entryCount (now t) wide) × (g ≤ 2097152) × (length (now slots) ≤ 1048576) × (g - f ≤ length (now slots)) ⌝ }
-    requires { ⌜ Zeros (now slots) ⌝ }
-    ensures { λ _. ⌜ Held (keyAt (now (t .entry)) wide) f g (now (slots .exit)) ⌝ }
+// Enters g keys.
+fn enter_all(t: &[u32], layout: Layout, base: usize, slots: &mut [u32], g: usize)
+    requires { ⌜ (base + g ≤ keyCount (now t) layout) × (g ≤ 2097152) ⌝ }
+    requires { ⌜ (g ≤ length (now slots)) × (length (now slots) ≤ 1048576) ⌝ }
+    requires { ⌜ Filled 0 (length (now slots)) (now slots) ⌝ }
+    ensures { λ _. ⌜ Held (shift (keyAt (now (t .entry)) layout) base) g (now (slots .exit)) ⌝ }
 {
-    let mut i = f;
+    let mut i: usize = 0;
     while i < g {
-        enter(t, wide, slots, f, i);
+        enter(t, layout, base, slots, i);
         i = i + 1;
     }
 }
 
-pub fn clear(t: &mut [u32])
-    ensures { λ _. ⌜ Zeros (now (t .exit)) ⌝ }
+pub fn fill(t: &mut [u32], v: u32)
+    ensures { λ _. ⌜ Filled v (length (now (t .entry))) (now (t .exit)) ⌝ }
 {
     let mut i: usize = 0;
     while i < t.len() {
-        t[i] = 0;
+        t[i] = v;
         i = i + 1;
     }
 }
 
-// The index of the entries f to g - 1.
-pub fn load(t: &[u32], wide: bool, slots: &mut [u32], f: usize, g: usize)
-    requires { ⌜ (f ≤ g) × (g ≤ entryCount (now t) wide) × (g ≤ 2097152) ⌝ }
-    requires { ⌜ (0 < length (now slots)) × (length (now slots) ≤ 1048576) × (g - f ≤ length (now slots)) ⌝ }
-    ensures { λ _. ⌜ Loaded (now (t .entry)) wide f g (now (slots .exit)) ⌝ }
+// The index of the g keys of t from `base` on.
+pub fn load(t: &[u32], layout: Layout, base: usize, slots: &mut [u32], g: usize)
+    requires { ⌜ (base + g ≤ keyCount (now t) layout) × (g ≤ 2097152) ⌝ }
+    requires { ⌜ (g ≤ length (now slots)) × (0 < length (now slots)) × (length (now slots) ≤ 1048576) ⌝ }
+    ensures { λ _. ⌜ Loaded (now (t .entry)) layout base g (now (slots .exit)) ⌝ }
 {
-    clear(slots);
-    fill(t, wide, slots, f, g);
+    fill(slots, 0);
+    enter_all(t, layout, base, slots, g);
 }
 
-// How many entries are entered at a time: at most half of the slots are taken, so that a search is short.
+// How many keys are entered at a time: at most half of the slots are taken, so that a search is short.
 pub fn portion_of(slots: usize) -> usize
     requires { ⌜ (0 < slots) × (slots ≤ 1048576) ⌝ }
     ensures { λ r. ⌜ (r ≡ portion slots) × (0 < r) × (r ≤ slots) ⌝ }

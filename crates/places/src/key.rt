@@ -1,9 +1,8 @@
-// Keys: an entry of a table, and what a tree looks for in it.
+// Keys: the entries of a table, and what the trees of a list look for in it.
 ghost use mathlib.Core.Path.{_≡_};
-ghost use Prim.Native.Nat.{_+_, _*_, _/_, _<_, _≤_};
+ghost use Prim.Native.Nat.{_+_, _*_, _<_, _≤_};
 ghost use lib.ListN.{length, getD};
-ghost use lib.Dec.{ltb};
-ghost use Rattle.places.specs.Key.{wordsKey, symbolKey, sameKey, keyAt, entryCount, treeKey, wanted, named};
+ghost use Rattle.places.specs.Key.{wordsKey, symbolKey, sameKey, keyAt, keyCount, shift, named};
 
 // The three words of a part, or a symbol and two zeros.
 pub struct Key {
@@ -12,26 +11,29 @@ pub struct Key {
     pub context: u32,
 }
 
-// Which index of a tree is looked for.
-pub enum Role {
+// How keys stand in a run of words.
+pub enum Layout {
+    // An entry of a table.
+    Part,
+    Symbol,
+    // Of a tree.
     Open,
     Close,
-    Symbol,
+    Name,
 }
 
 // The key in the three words from a place on.
-fn words_key(l: &[u32], at: usize) -> Key
-    requires { ⌜ at + 3 ≤ length (now l) ⌝ }
-    ensures { λ r. ⌜ r ≡ wordsKey (now (l .entry)) at ⌝ }
+fn words_key(t: &[u32], at: usize) -> Key
+    requires { ⌜ at + 3 ≤ length (now t) ⌝ }
+    ensures { λ r. ⌜ r ≡ wordsKey (now (t .entry)) at ⌝ }
 {
     Key {
-        file: l[at],
-        ast_id: l[at + 1],
-        context: l[at + 2],
+        file: t[at],
+        ast_id: t[at + 1],
+        context: t[at + 2],
     }
 }
 
-// A symbol as a key.
 fn symbol_key(y: u32) -> Key
     ensures { λ r. ⌜ r ≡ symbolKey y ⌝ }
 {
@@ -56,15 +58,46 @@ fn entry_key(symbols: &[u32], i: usize) -> Key
     symbol_key(symbols[i])
 }
 
-// Entry i of a part table (wide) or of a symbol table.
-pub fn key_at(t: &[u32], wide: bool, i: usize) -> Key
-    requires { ⌜ i < entryCount (now t) wide ⌝ }
-    ensures { λ r. ⌜ r ≡ keyAt (now (t .entry)) wide i ⌝ }
+fn open_key(l: &[u32], i: usize) -> Key
+    requires { ⌜ 13 * i + 13 ≤ length (now l) ⌝ }
+    ensures { λ r. ⌜ r ≡ wordsKey (now (l .entry)) (13 * i + 3) ⌝ }
 {
-    if wide {
-        return part_key(t, i);
+    words_key(l, 13 * i + 3)
+}
+
+fn close_key(l: &[u32], i: usize) -> Key
+    requires { ⌜ 13 * i + 13 ≤ length (now l) ⌝ }
+    ensures { λ r. ⌜ r ≡ wordsKey (now (l .entry)) (13 * i + 8) ⌝ }
+{
+    words_key(l, 13 * i + 8)
+}
+
+fn name_key(l: &[u32], i: usize) -> Key
+    requires { ⌜ 13 * i + 13 ≤ length (now l) ⌝ }
+    ensures { λ r. ⌜ r ≡ symbolKey (getD (now (l .entry)) (13 * i + 1) 0) ⌝ }
+{
+    symbol_key(l[13 * i + 1])
+}
+
+pub fn key_at(t: &[u32], layout: Layout, i: usize) -> Key
+    requires { ⌜ i < keyCount (now t) layout ⌝ }
+    ensures { λ r. ⌜ r ≡ keyAt (now (t .entry)) layout i ⌝ }
+{
+    match layout {
+        Layout::Part => part_key(t, i),
+        Layout::Symbol => entry_key(t, i),
+        Layout::Open => open_key(t, i),
+        Layout::Close => close_key(t, i),
+        Layout::Name => name_key(t, i),
     }
-    entry_key(t, i)
+}
+
+// Key i from `base` on.
+pub fn key_from(t: &[u32], layout: Layout, base: usize, i: usize) -> Key
+    requires { ⌜ base + i < keyCount (now t) layout ⌝ }
+    ensures { λ r. ⌜ r ≡ shift (keyAt (now (t .entry)) layout) base i ⌝ }
+{
+    key_at(t, layout, base + i)
 }
 
 pub fn same_key(x: Key, y: Key) -> bool
@@ -82,41 +115,8 @@ pub fn same_key(x: Key, y: Key) -> bool
     true
 }
 
-// The key of tree n in this role.
-pub fn tree_key(l: &[u32], n: usize, role: Role) -> Key
-    requires { ⌜ n < length (now l) / 13 ⌝ }
-    ensures { λ r. ⌜ r ≡ treeKey role (now (l .entry)) n ⌝ }
-{
-    match role {
-        Role::Open => words_key(l, 13 * n + 3),
-        Role::Close => words_key(l, 13 * n + 8),
-        Role::Symbol => symbol_key(l[13 * n + 1]),
-    }
-}
-
-// Whether a tree of this sort has an index in this role.
-pub fn is_wanted(role: Role, sort: u32) -> bool
-    ensures { λ r. ⌜ r ≡ wanted role sort ⌝ }
-{
-    match role {
-        Role::Open => true,
-        Role::Close => is_subtree(sort),
-        Role::Symbol => is_named(sort),
-    }
-}
-
-// Whether a tree of this sort is a subtree.
-fn is_subtree(sort: u32) -> bool
-    ensures { λ r. ⌜ r ≡ ltb 2 sort ⌝ }
-{
-    if 2 < sort {
-        return true;
-    }
-    false
-}
-
 // Whether a tree of this sort has a symbol: an ident or a literal.
-fn is_named(sort: u32) -> bool
+pub fn is_named(sort: u32) -> bool
     ensures { λ r. ⌜ r ≡ named sort ⌝ }
 {
     if sort == 1 {

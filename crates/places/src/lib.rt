@@ -1,6 +1,6 @@
 // The first places of a list's parts and symbols in their tables.
 pub mod index;
 pub mod key;
-pub mod portions;
 pub mod resolve;
+pub mod stream;
 pub mod whole;

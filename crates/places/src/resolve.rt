@@ -1,17 +1,18 @@
 // The indices of a run of trees: each key's first place in its table.
 use crate::index::load;
 use crate::index::portion_of;
-use crate::portions::place_parts;
-use crate::portions::place_symbols;
+use crate::key::Layout;
+use crate::stream::place_run;
 use crate::whole::resolve_whole;
 ghost use mathlib.Core.Path.{_≡_};
 ghost use mathlib.Core.Bool.{_&&_};
-ghost use Prim.Native.Nat.{_-_, _/_, _<_, _≤_};
+ghost use Prim.Native.Nat.{_+_, _-_, _/_, _<_, _≤_};
 ghost use lib.Dec.{leb};
 ghost use lib.ListN.{length};
-ghost use Rattle.places.specs.Key.{keyAt, entryCount};
+ghost use Rattle.places.specs.Key.{keyCount};
 ghost use Rattle.places.specs.Index.{portion, Ready};
-ghost use Rattle.places.specs.Places.{Resolved, Roomy, Indexed};
+ghost use Rattle.places.specs.Places.{Resolved, Roomy, Indexed, Placed, Streamed, Least};
+ghost use Rattle.places.specs.declared.key.Layout.the-variants.{Part, Symbol, Open, Close, Name};
 
 // The number of parts before the last two.
 fn below_two(parts: &[u32]) -> usize
@@ -25,15 +26,16 @@ fn below_two(parts: &[u32]) -> usize
 }
 
 // The index of a table that is one portion.
-fn build_one(t: &[u32], wide: bool, n: usize, slots: &mut [u32])
-    requires { ⌜ (n ≤ entryCount (now t) wide) × (n ≤ 2097152) × (0 < length (now slots)) × (length (now slots) ≤ 1048576) ⌝ }
-    ensures { λ _. ⌜ Ready (keyAt (now (t .entry)) wide) n (now (slots .exit)) ⌝ }
+fn build_one(t: &[u32], table: Layout, n: usize, slots: &mut [u32])
+    requires { ⌜ (n ≤ keyCount (now t) table) × (n ≤ 2097152) ⌝ }
+    requires { ⌜ (0 < length (now slots)) × (length (now slots) ≤ 1048576) ⌝ }
+    ensures { λ _. ⌜ Ready (now (t .entry)) table n (now (slots .exit)) ⌝ }
 {
     let most = portion_of(slots.len());
     if most < n {
         return;
     }
-    load(t, wide, slots, 0, n);
+    load(t, table, 0, slots, n);
 }
 
 // Indexes the tables that are one portion of their slots, for any number of calls of resolve.
@@ -42,8 +44,8 @@ pub fn build(parts: &[u32], symbols: &[u32], part_slots: &mut [u32], symbol_slot
     ensures { λ _. ⌜ Indexed (now (parts .entry)) (now (symbols .entry)) (now («part_slots» .exit)) (now («symbol_slots» .exit)) ⌝ }
 {
     let n = below_two(parts);
-    build_one(parts, true, n, part_slots);
-    build_one(symbols, false, symbols.len(), symbol_slots);
+    build_one(parts, Layout::Part, n, part_slots);
+    build_one(symbols, Layout::Symbol, symbols.len(), symbol_slots);
 }
 
 // Whether both tables are one portion of their slots.
@@ -62,7 +64,105 @@ fn are_whole(n: usize, part_slots: usize, m: usize, symbol_slots: usize) -> bool
     true
 }
 
-fn resolve_portions(
+// The smaller of two numbers.
+fn least(a: usize, b: usize) -> usize
+    ensures { λ r. ⌜ (r ≤ a) × (r ≤ b) × Least a b r ⌝ }
+{
+    if a < b {
+        return a;
+    }
+    b
+}
+
+fn stream_parts(
+    l: &[u32],
+    parts: &[u32],
+    g: usize,
+    from: usize,
+    m: usize,
+    slots: &mut [u32],
+    opens: &mut [u32],
+    closes: &mut [u32],
+)
+    requires { ⌜ (g ≤ keyCount (now parts) Part) × (g ≤ 2097152) × (from + m ≤ length (now l) / 13) ⌝ }
+    requires { ⌜ (m ≤ length (now opens)) × (m ≤ length (now closes)) ⌝ }
+    requires { ⌜ (0 < length (now slots)) × (length (now slots) ≤ 1048576) ⌝ }
+    ensures { λ _. ⌜ Placed (now (parts .entry)) Part g (now (l .entry)) Open from m (now (opens .exit)) ⌝ }
+    ensures { λ _. ⌜ Placed (now (parts .entry)) Part g (now (l .entry)) Close from m (now (closes .exit)) ⌝ }
+{
+    place_run(
+        parts,
+        Layout::Part,
+        g,
+        l,
+        Layout::Open,
+        from,
+        slots,
+        m,
+        opens,
+    );
+    place_run(
+        parts,
+        Layout::Part,
+        g,
+        l,
+        Layout::Close,
+        from,
+        slots,
+        m,
+        closes,
+    );
+}
+
+fn stream_symbols(
+    l: &[u32],
+    symbols: &[u32],
+    from: usize,
+    m: usize,
+    slots: &mut [u32],
+    syms: &mut [u32],
+)
+    requires { ⌜ (length (now symbols) ≤ 1048576) × (from + m ≤ length (now l) / 13) × (m ≤ length (now syms)) ⌝ }
+    requires { ⌜ (0 < length (now slots)) × (length (now slots) ≤ 1048576) ⌝ }
+    ensures { λ _. ⌜ Placed (now (symbols .entry)) Symbol (length (now (symbols .entry))) (now (l .entry)) Name from m (now (syms .exit)) ⌝ }
+{
+    place_run(
+        symbols,
+        Layout::Symbol,
+        symbols.len(),
+        l,
+        Layout::Name,
+        from,
+        slots,
+        m,
+        syms,
+    );
+}
+
+// The indices of m trees: each table is read through once for each kind of key.
+fn stream(
+    l: &[u32],
+    parts: &[u32],
+    symbols: &[u32],
+    g: usize,
+    from: usize,
+    m: usize,
+    part_slots: &mut [u32],
+    symbol_slots: &mut [u32],
+    opens: &mut [u32],
+    closes: &mut [u32],
+    syms: &mut [u32],
+)
+    requires { ⌜ Roomy (length (now parts)) (length (now symbols)) (length (now «part_slots»)) (length (now «symbol_slots»)) ⌝ }
+    requires { ⌜ (g ≡ length (now parts) / 3 - 2) × (from + m ≤ length (now l) / 13) ⌝ }
+    requires { ⌜ (m ≤ length (now opens)) × (m ≤ length (now closes)) × (m ≤ length (now syms)) ⌝ }
+    ensures { λ _. ⌜ Streamed (now (parts .entry)) (now (symbols .entry)) (now (l .entry)) g from m (now (opens .exit)) (now (closes .exit)) (now (syms .exit)) ⌝ }
+{
+    stream_parts(l, parts, g, from, m, part_slots, opens, closes);
+    stream_symbols(l, symbols, from, m, symbol_slots, syms);
+}
+
+fn resolve_stream(
     l: &[u32],
     parts: &[u32],
     symbols: &[u32],
@@ -79,9 +179,26 @@ fn resolve_portions(
     ensures { λ _. ⌜ Resolved (now (parts .entry)) (now (symbols .entry)) (now (l .entry)) from (length (now (opens .entry))) (now (opens .exit)) (now (closes .exit)) (now (syms .exit)) ⌝ }
     ensures { λ _. ⌜ Indexed (now (parts .entry)) (now (symbols .entry)) (now («part_slots» .exit)) (now («symbol_slots» .exit)) ⌝ }
 {
-    let n = below_two(parts);
-    place_parts(l, parts, n, part_slots, from, opens, closes);
-    place_symbols(l, symbols, symbol_slots, from, syms);
+    let k = l.len() / 13;
+    if k <= from {
+        return;
+    }
+    let m = least(k - from, opens.len());
+    let g = below_two(parts);
+    stream(
+        l,
+        parts,
+        symbols,
+        g,
+        from,
+        m,
+        part_slots,
+        symbol_slots,
+        opens,
+        closes,
+        syms,
+    );
+    build(parts, symbols, part_slots, symbol_slots);
 }
 
 // The indices of trees from, from + 1, ..: as many as opens, closes and syms are long, as far as they exist.
@@ -118,7 +235,7 @@ pub fn resolve(
         );
         return;
     }
-    resolve_portions(
+    resolve_stream(
         l,
         parts,
         symbols,

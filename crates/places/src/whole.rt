@@ -1,19 +1,19 @@
 // Trees whose two tables are both indexed whole: all their indices in one pass.
-use crate::index::first_in;
+use crate::index::Looked;
+use crate::index::find_key;
 use crate::key::Key;
-use crate::key::Role;
-use crate::key::is_wanted;
+use crate::key::Layout;
+use crate::key::is_named;
+use crate::key::key_at;
 use crate::key::same_key;
-use crate::key::tree_key;
 ghost use mathlib.Core.Path.{_≡_};
-ghost use mathlib.Core.Bool.{true, false};
 ghost use Prim.Native.Nat.{_+_, _-_, _/_, _<_, _≤_};
 ghost use lib.ListN.{length};
-ghost use Rattle.format.specs.Writer.{find, rawOf};
 ghost use Rattle.format.specs.WordList.{wordOf, rawFrom};
-ghost use Rattle.places.specs.Key.{keyAt, isKey, treeKey};
+ghost use Rattle.format.specs.Writer.{find, rawOf};
+ghost use Rattle.places.specs.Key.{keyAt, keyCount, isKey};
 ghost use Rattle.places.specs.Index.{Loaded};
-ghost use Rattle.places.specs.declared.key.Role.the-variants.{Open, Close};
+ghost use Rattle.places.specs.declared.key.Layout.the-variants.{Part, Open, Close};
 ghost use Rattle.places.specs.Places.{Resolved, Whole};
 
 // What a tree does not use is 0.
@@ -23,28 +23,38 @@ pub struct Indices {
     pub symbol: u32,
 }
 
-// A key's first place among the g entries of a table.
-fn place_in(t: &[u32], wide: bool, slots: &[u32], g: usize, k: Key) -> u32
-    requires { ⌜ Loaded (now t) wide 0 g (now slots) ⌝ }
-    ensures { λ r. ⌜ r ≡ find (isKey (keyAt (now (t .entry)) wide) k) g 0 ⌝ }
+fn narrow(x: usize) -> u32
+    requires { ⌜ x < 4294967296 ⌝ }
+    ensures { λ r. ⌜ r ≡ x ⌝ }
 {
-    let r = first_in(t, wide, slots, 0, g, k);
-    r as u32
+    x as u32
+}
+
+// A key's first place among the g entries of a table.
+fn place_in(t: &[u32], table: Layout, slots: &[u32], g: usize, k: Key) -> u32
+    requires { ⌜ Loaded (now t) table 0 g (now slots) ⌝ }
+    ensures { λ r. ⌜ r ≡ find (isKey (keyAt (now (t .entry)) table) k) g 0 ⌝ }
+{
+    match find_key(t, table, 0, slots, g, k) {
+        Looked::Found(j) => narrow(j),
+        Looked::Empty(_) => narrow(g),
+        Looked::Full => narrow(g),
+    }
 }
 
 // The close part's place: as a rule it is the open part's, which is o.
 fn close_place(l: &[u32], n: usize, parts: &[u32], slots: &[u32], g: usize, o: u32) -> u32
-    requires { ⌜ Loaded (now parts) true 0 g (now slots) ⌝ }
-    requires { ⌜ n < length (now l) / 13 ⌝ }
-    requires { ⌜ o ≡ find (isKey (keyAt (now parts) true) (treeKey Open (now l) n)) g 0 ⌝ }
-    ensures { λ r. ⌜ r ≡ find (isKey (keyAt (now (parts .entry)) true) (treeKey Close (now (l .entry)) n)) g 0 ⌝ }
+    requires { ⌜ Loaded (now parts) Part 0 g (now slots) ⌝ }
+    requires { ⌜ (n < keyCount (now l) Open) × (n < keyCount (now l) Close) ⌝ }
+    requires { ⌜ o ≡ find (isKey (keyAt (now parts) Part) (keyAt (now l) Open n)) g 0 ⌝ }
+    ensures { λ r. ⌜ r ≡ find (isKey (keyAt (now (parts .entry)) Part) (keyAt (now (l .entry)) Close n)) g 0 ⌝ }
 {
-    let opening = tree_key(l, n, Role::Open);
-    let closing = tree_key(l, n, Role::Close);
+    let opening = key_at(l, Layout::Open, n);
+    let closing = key_at(l, Layout::Close, n);
     if same_key(closing, opening) {
         return o;
     }
-    place_in(parts, true, slots, g, closing)
+    place_in(parts, Layout::Part, slots, g, closing)
 }
 
 fn tree_indices(
@@ -61,22 +71,22 @@ fn tree_indices(
     ensures { λ r. ⌜ rawFrom (r .opening) (r .closing) (r .symbol) (wordOf (now (l .entry)) n) ≡ rawOf (now (parts .entry)) (now (symbols .entry)) (now (l .entry)) n ⌝ }
 {
     let sort = l[13 * n];
-    let o = place_in(parts, true, part_slots, g, tree_key(l, n, Role::Open));
-    if is_wanted(Role::Symbol, sort) {
-        let y = place_in(
-            symbols,
-            false,
-            symbol_slots,
-            symbols.len(),
-            tree_key(l, n, Role::Symbol),
-        );
+    let o = place_in(
+        parts,
+        Layout::Part,
+        part_slots,
+        g,
+        key_at(l, Layout::Open, n),
+    );
+    if is_named(sort) {
+        let k = key_at(l, Layout::Name, n);
         return Indices {
             opening: o,
             closing: 0,
-            symbol: y,
+            symbol: place_in(symbols, Layout::Symbol, symbol_slots, symbols.len(), k),
         };
     }
-    if !is_wanted(Role::Close, sort) {
+    if sort <= 2 {
         return Indices {
             opening: o,
             closing: 0,

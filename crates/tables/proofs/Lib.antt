@@ -14,3 +14,5 @@ pub mod SettleReturns
 pub mod LargeReturns
 pub mod CountReturns
 pub mod MakeReturns
+pub mod ClassLaw
+pub mod ClassReturns

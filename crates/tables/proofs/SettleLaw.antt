@@ -31,7 +31,7 @@ use Rattle.tables.proofs.TableLaw.{in-step, in-mono, words-length}
 take-one : (w : List ℕ) (n : ℕ) → n < length w → take (suc n) w ≡ take n w ++ getD w n 0 ∷ []
 take-one w n h = take-suc w n 0 h
 
-amount-last : (f : ℕ → Bool) (l : List ℕ) (x : ℕ) → amount f (l ++ x ∷ []) ≡ (if f x then amount f l + 1 else amount f l)
+pub amount-last : (f : ℕ → Bool) (l : List ℕ) (x : ℕ) → amount f (l ++ x ∷ []) ≡ (if f x then amount f l + 1 else amount f l)
 unfolding amount
 amount-last f [] x = refl
 amount-last f (y ∷ ys) x = go (f y) (f x) (amount-last f ys x)

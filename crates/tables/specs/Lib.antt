@@ -5,3 +5,4 @@ pub mod Runs
 pub mod Pairs
 pub mod Count
 pub mod Made
+pub mod Classes

@@ -8,3 +8,4 @@ pub mod scan;
 pub mod settle;
 pub mod count;
 pub mod make;
+pub mod classes;

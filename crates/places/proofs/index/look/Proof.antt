@@ -1,7 +1,7 @@
 use Prim.Native.Nat.{_<_}
 use mathlib.Core.Path.{_≡_}
 use lib.ListN.{length}
-use Rattle.places.specs.Key.{keyAt, isKey}
+use Rattle.places.specs.Key.{keyAt, shift, isKey}
 use Rattle.places.specs.Index.{probe}
 use borrow.Author.Needs.{needs}
 use Rattle.places.proofs.IndexReturns.{look-cases}
@@ -11,72 +11,72 @@ use Rattle.places.proofs.index.look.Reads as reads
 use Rattle.places.proofs.index.look.Lts as lts
 use Rattle.places.proofs.index.next_slot.Reads as next-slot-reads
 use Rattle.places.proofs.index.size.Reads as size-reads
-use Rattle.places.proofs.key.key_at.Reads as key-at-reads
+use Rattle.places.proofs.key.key_from.Reads as key-from-reads
 use Rattle.places.proofs.key.same_key.Reads as same-key-reads
 
 abbrev Inv-loop : tie.InvT-loop
-Inv-loop t wide slots k start s₀ left₀ s left = (s < length slots) × (probe (length slots) slots (isKey (keyAt t wide) k) start (length slots) ≡ probe (length slots) slots (isKey (keyAt t wide) k) s left)
+Inv-loop t layout base slots k start s₀ left₀ s left = (s < length slots) × (probe (length slots) slots (isKey (shift (keyAt t layout) base) k) start (length slots) ≡ probe (length slots) slots (isKey (shift (keyAt t layout) base) k) s left)
 
 abbrev μ-loop : tie.MeasureT-loop
-μ-loop t wide slots k start s₀ left₀ s left = left
+μ-loop t layout base slots k start s₀ left₀ s left = left
 
--- src/index.rt:73:5
+-- src/index.rt:72:5
 loop-holds : tie.Need-loop-holds Inv-loop μ-loop
 loop-holds c = search (needs, look-cases)
 
--- src/index.rt:74:22
+-- src/index.rt:73:22
 mul-size : tie.Need-mul-size Inv-loop μ-loop
 mul-size c = search (needs, look-cases)
 
--- src/index.rt:74:22
+-- src/index.rt:73:22
 shared-slice-read-size : tie.Need-shared-slice-read-size Inv-loop μ-loop
 shared-slice-read-size c = search (needs, look-cases)
 
--- src/index.rt:74:13
+-- src/index.rt:73:13
 size-requires : tie.Need-size-requires Inv-loop μ-loop
 size-requires c κs = search (needs, look-cases)
 
--- src/index.rt:76:13
+-- src/index.rt:75:13
 returns : tie.Need-returns Inv-loop μ-loop
 returns c = search (needs, look-cases)
 
--- src/index.rt:78:37
-sub-key-at : tie.Need-sub-key-at Inv-loop μ-loop
-sub-key-at c = search (needs, look-cases)
+-- src/index.rt:77:47
+sub-key-from : tie.Need-sub-key-from Inv-loop μ-loop
+sub-key-from c = search (needs, look-cases)
 
--- src/index.rt:78:13
-key-at-requires : tie.Need-key-at-requires Inv-loop μ-loop
-key-at-requires c κs = search (needs, look-cases)
+-- src/index.rt:77:13
+key-from-requires : tie.Need-key-from-requires Inv-loop μ-loop
+key-from-requires c κs = search (needs, look-cases)
 
--- src/index.rt:79:12
+-- src/index.rt:78:12
 same-key-requires : tie.Need-same-key-requires Inv-loop μ-loop
 same-key-requires c κs = search (needs, look-cases)
 
--- src/index.rt:80:34
-sub-t15 : tie.Need-sub-t15 Inv-loop μ-loop
-sub-t15 c = search (needs, look-cases)
+-- src/index.rt:79:34
+sub-t16 : tie.Need-sub-t16 Inv-loop μ-loop
+sub-t16 c = search (needs, look-cases)
 
--- src/index.rt:80:13
+-- src/index.rt:79:13
 returns-2 : tie.Need-returns-2 Inv-loop μ-loop
 returns-2 c = search (needs, look-cases)
 
--- src/index.rt:82:9
+-- src/index.rt:81:9
 next-slot-requires : tie.Need-next-slot-requires Inv-loop μ-loop
 next-slot-requires c κs = search (needs, look-cases)
 
--- src/index.rt:83:16
+-- src/index.rt:82:16
 sub-left : tie.Need-sub-left Inv-loop μ-loop
 sub-left c = search (needs, look-cases)
 
--- src/index.rt:73:5
+-- src/index.rt:72:5
 loop-less : tie.Need-loop-less Inv-loop μ-loop
 loop-less c = search (needs, look-cases)
 
--- src/index.rt:73:5
+-- src/index.rt:72:5
 loop-again : tie.Need-loop-again Inv-loop μ-loop
 loop-again c = search (needs, look-cases)
 
--- src/index.rt:66:1
+-- src/index.rt:65:1
 returns-3 : tie.Need-returns-3 Inv-loop μ-loop
 returns-3 c = search (needs, look-cases)
 
@@ -91,10 +91,10 @@ look-spec =
     shared-slice-read-size
     size-requires
     returns
-    sub-key-at
-    key-at-requires
+    sub-key-from
+    key-from-requires
     same-key-requires
-    sub-t15
+    sub-t16
     returns-2
     next-slot-requires
     sub-left

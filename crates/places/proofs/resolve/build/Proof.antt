@@ -1,5 +1,5 @@
 use borrow.Author.Needs.{needs}
-use Rattle.places.proofs.ResolveReturns.{resolve-cases}
+use Rattle.places.proofs.ResolveReturns.{build-cases}
 use Rattle.places.proofs.resolve.build.Statement.{statement}
 use Rattle.places.proofs.resolve.build.Tie as tie
 use Rattle.places.proofs.resolve.build.Reads as reads
@@ -7,29 +7,29 @@ use Rattle.places.proofs.resolve.build.Lts as lts
 use Rattle.places.proofs.resolve.below_two.Reads as below-two-reads
 use Rattle.places.proofs.resolve.build_one.Reads as build-one-reads
 
--- src/resolve.rt:303:9
+-- src/resolve.rt:45:9
 below-two-requires : tie.Need-below-two-requires
-below-two-requires c κs = search (needs, resolve-cases)
+below-two-requires c κs = search (needs, build-cases)
 
--- src/resolve.rt:304:5
+-- src/resolve.rt:46:5
 build-one-requires : tie.Need-build-one-requires
-build-one-requires c κs = search (needs, resolve-cases)
+build-one-requires c κs = search (needs, build-cases)
 
--- src/resolve.rt:305:5
+-- src/resolve.rt:47:5
 build-one-requires-2 : tie.Need-build-one-requires-2
-build-one-requires-2 c κs = search (needs, resolve-cases)
+build-one-requires-2 c κs = search (needs, build-cases)
 
--- src/resolve.rt:299:1
+-- src/resolve.rt:41:1
 same-length : tie.Need-same-length
-same-length c = search (needs, resolve-cases)
+same-length c = search (needs, build-cases)
 
--- src/resolve.rt:299:1
+-- src/resolve.rt:41:1
 same-length-2 : tie.Need-same-length-2
-same-length-2 c = search (needs, resolve-cases)
+same-length-2 c = search (needs, build-cases)
 
--- src/resolve.rt:299:1
+-- src/resolve.rt:41:1
 returns : tie.Need-returns
-returns c = search (needs, resolve-cases)
+returns c = search (needs, build-cases)
 
 pub build-spec : {M : Type 1} → statement M
 build-spec =

@@ -6,70 +6,70 @@ use Rattle.places.proofs.resolve.resolve.Reads as reads
 use Rattle.places.proofs.resolve.resolve.Lts as lts
 use Rattle.places.proofs.resolve.are_whole.Reads as are-whole-reads
 use Rattle.places.proofs.resolve.below_two.Reads as below-two-reads
-use Rattle.places.proofs.resolve.resolve_portions.Reads as resolve-portions-reads
+use Rattle.places.proofs.resolve.resolve_stream.Reads as resolve-stream-reads
 use Rattle.places.proofs.whole.resolve_whole.Reads as resolve-whole-reads
 
--- src/resolve.rt:105:9
+-- src/resolve.rt:187:9
 below-two-requires : tie.Need-below-two-requires
 below-two-requires c κs = search (needs, resolve-cases)
 
--- src/resolve.rt:106:8
+-- src/resolve.rt:188:8
 are-whole-requires : tie.Need-are-whole-requires
 are-whole-requires c κs = search (needs, resolve-cases)
 
--- src/resolve.rt:107:9
+-- src/resolve.rt:189:9
 resolve-whole-requires : tie.Need-resolve-whole-requires
 resolve-whole-requires c κs = (search indexed-whole, (search needs, search needs, search needs))
 
--- src/resolve.rt:119:9
+-- src/resolve.rt:201:9
 same-length : tie.Need-same-length
 same-length c = search (needs, resolve-cases)
 
--- src/resolve.rt:119:9
+-- src/resolve.rt:201:9
 same-length-2 : tie.Need-same-length-2
 same-length-2 c = search (needs, resolve-cases)
 
--- src/resolve.rt:119:9
+-- src/resolve.rt:201:9
 same-length-3 : tie.Need-same-length-3
 same-length-3 c = search (needs, resolve-cases)
 
--- src/resolve.rt:119:9
+-- src/resolve.rt:201:9
 same-length-4 : tie.Need-same-length-4
 same-length-4 c = search (needs, resolve-cases)
 
--- src/resolve.rt:119:9
+-- src/resolve.rt:201:9
 same-length-5 : tie.Need-same-length-5
 same-length-5 c = search (needs, resolve-cases)
 
--- src/resolve.rt:119:9
+-- src/resolve.rt:201:9
 returns : tie.Need-returns
 returns c = search (needs, resolve-cases)
 
--- src/resolve.rt:121:5
-resolve-portions-requires : tie.Need-resolve-portions-requires
-resolve-portions-requires c κs = search (needs, resolve-cases)
+-- src/resolve.rt:203:5
+resolve-stream-requires : tie.Need-resolve-stream-requires
+resolve-stream-requires c κs = search (needs, resolve-cases)
 
--- src/resolve.rt:88:1
+-- src/resolve.rt:170:1
 same-length-6 : tie.Need-same-length-6
 same-length-6 c = search (needs, resolve-cases)
 
--- src/resolve.rt:88:1
+-- src/resolve.rt:170:1
 same-length-7 : tie.Need-same-length-7
 same-length-7 c = search (needs, resolve-cases)
 
--- src/resolve.rt:88:1
+-- src/resolve.rt:170:1
 same-length-8 : tie.Need-same-length-8
 same-length-8 c = search (needs, resolve-cases)
 
--- src/resolve.rt:88:1
+-- src/resolve.rt:170:1
 same-length-9 : tie.Need-same-length-9
 same-length-9 c = search (needs, resolve-cases)
 
--- src/resolve.rt:88:1
+-- src/resolve.rt:170:1
 same-length-10 : tie.Need-same-length-10
 same-length-10 c = search (needs, resolve-cases)
 
--- src/resolve.rt:88:1
+-- src/resolve.rt:170:1
 returns-2 : tie.Need-returns-2
 returns-2 c = search (needs, resolve-cases)
 
@@ -86,7 +86,7 @@ resolve-spec =
     same-length-4
     same-length-5
     returns
-    resolve-portions-requires
+    resolve-stream-requires
     same-length-6
     same-length-7
     same-length-8

@@ -1,0 +1,35 @@
+use borrow.Author.Needs.{needs}
+use Rattle.tables.proofs.ClassReturns.{copy-cases}
+use Rattle.tables.proofs.classes.copy_one.Statement.{statement}
+use Rattle.tables.proofs.classes.copy_one.Tie as tie
+use Rattle.tables.proofs.classes.copy_one.Reads as reads
+use Rattle.tables.proofs.classes.copy_one.Lts as lts
+use Rattle.tables.proofs.keys.get_at.Reads as get-at-reads
+
+-- src/classes.rt:22:18
+get-at-requires : tie.Need-get-at-requires
+get-at-requires c κs = search (needs, copy-cases)
+
+-- src/classes.rt:22:8
+add-to : tie.Need-add-to
+add-to c = search (needs, copy-cases)
+
+-- src/classes.rt:22:5
+mul-to : tie.Need-mul-to
+mul-to c = search (needs, copy-cases)
+
+-- src/classes.rt:22:5
+slice-write-to : tie.Need-slice-write-to
+slice-write-to c = search (needs, copy-cases)
+
+-- src/classes.rt:18:1
+same-length : tie.Need-same-length
+same-length c = search (needs, copy-cases)
+
+-- src/classes.rt:18:1
+returns : tie.Need-returns
+returns c = search (needs, copy-cases)
+
+pub copy-one-spec : {M : Type 1} → statement M
+copy-one-spec =
+    tie.close (tie.spec get-at-requires add-to mul-to slice-write-to same-length returns)
