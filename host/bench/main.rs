@@ -8,6 +8,7 @@ mod words;
 
 mod buffers;
 mod list;
+mod lists;
 mod timing;
 mod tree;
 
@@ -16,5 +17,6 @@ fn main() {
     println!("|---|---|---|---|");
     tree::spans();
     tree::trees();
+    lists::run();
     buffers::run();
 }

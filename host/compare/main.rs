@@ -7,6 +7,7 @@ mod plain_buffer;
 mod plain_list;
 mod proved;
 mod random;
+mod stack;
 mod tally;
 mod tree;
 mod words;
@@ -15,12 +16,16 @@ use tally::Tally;
 
 fn main() {
     let many: u64 = std::env::args().nth(1).map_or(1, |x| x.parse().expect("how many times the usual number"));
-    let parts: [(&str, &dyn Fn(&mut Tally)); 6] = [
+    let parts: [(&str, &dyn Fn(&mut Tally)); 10] = [
         ("spans and symbols written", &|t| pack::write(t)),
         ("spans and symbols read", &|t| pack::read(t)),
         ("trees written", &|t| tree::write(t, 1_000_000 * many)),
         ("roots written", &|t| tree::write_roots(t, 200_000 * many)),
         ("trees read", &|t| tree::read(t, 50_000 * many)),
+        ("lists written", &|t| lists::write(t, 40_000 * many)),
+        ("tables made", &|t| lists::tables(t, 40_000 * many)),
+        ("damaged lists", &|t| lists::damaged(t, 40_000 * many)),
+        ("largest lists, stack of 1 MB", &|t| stack::run(t)),
         ("buffers checked", &|t| buffers::check(t, 40_000 * many)),
     ];
     let mut failed = false;

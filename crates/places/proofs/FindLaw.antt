@@ -62,10 +62,6 @@ module _ (t : ℕ → Bool) where
       let z : 0 + f ≡ f = omega arith in
       ap (λ (x : ℕ). find t x 0) e ∙ find-on f (g - f) 0 (omega arith) ∙ ap (λ (x : ℕ). find t (g - f) x) z
 
-  pub find-none-yet : find t 0 0 ≡ 0
-  unfolding find
-  find-none-yet = refl
-
   pub find-here : (a i : ℕ) → 0 < a → t i ≡ true → find t a i ≡ i
   unfolding find
   find-here zero i h e = absurd (omega arith)

@@ -7,5 +7,6 @@ pub mod IndexReturns
 pub mod StreamReturns
 pub mod TreeLaw
 pub mod WholeReturns
+pub mod ClosesReturns
 pub mod ResolveReturns
 pub mod Use

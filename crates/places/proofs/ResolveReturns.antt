@@ -10,12 +10,13 @@ use lib.ListN.{length, getD}
 use Rattle.format.specs.WordList.{wordOf, rawFrom, listCount}
 use Rattle.format.specs.Writer.{find, rawOf}
 use Rattle.format.proofs.Each.{and-left, and-right}
-use Rattle.places.specs.Key.{keyAt, keyCount, shift, isKey}
+use Rattle.places.specs.Key.{keyAt, keyCount, isKey}
 use Rattle.places.specs.Index.{portion, Loaded, Ready}
-use Rattle.places.specs.Places.{Resolved, Placed, Streamed, Roomy, Indexed, Whole, Least}
+use Rattle.places.specs.Places.{Resolved, Placed, Closed, Streamed, Roomy, Indexed, Whole, Least}
 use Rattle.places.specs.declared.key.Key.{Key}
 use Rattle.places.specs.declared.key.Layout.{Layout}
 use Rattle.places.specs.declared.key.Layout.the-variants.{Part, Symbol, Open, Close, Name}
+use Rattle.places.proofs.ClosesReturns.{opens-inside, closes-inside, names-inside}
 use Rattle.places.proofs.TreeLaw.{tree-raw}
 
 -- ---- what the slots hold
@@ -125,20 +126,7 @@ least-second a b = record { at = λ j h k. k }
 
 pub ruleset least-cases = (least-first, least-second)
 
-module _ (l : List ℕ) (n : ℕ) (h : n ≤ length l / 13) where
-  pub opens-inside : n ≤ keyCount l Open
-  unfolding keyCount
-  opens-inside = h
-
-  pub closes-inside : n ≤ keyCount l Close
-  unfolding keyCount
-  closes-inside = h
-
-  pub names-inside : n ≤ keyCount l Name
-  unfolding keyCount
-  names-inside = h
-
-pub streamed : (parts symbols l : List ℕ) (g from m : ℕ) (opens closes syms : List ℕ) → Placed parts Part g l Open from m opens → Placed parts Part g l Close from m closes
+pub streamed : (parts symbols l : List ℕ) (g from m : ℕ) (opens closes syms : List ℕ) → Placed parts Part g l Open from m opens → Closed parts g l from m closes
     → Placed symbols Symbol (length symbols) l Name from m syms → Streamed parts symbols l g from m opens closes syms
 streamed parts symbols l g from m opens closes syms O C S = record { opening = O; closing = C; symbol = S }
 
@@ -155,7 +143,7 @@ module _ (parts symbols l : List ℕ) (from : ℕ) (opens closes syms : List ℕ
         let v : j < r = L .at j (omega arith) u in
         tree-raw parts symbols l (from + j) (getD opens j 0) (getD closes j 0) (getD syms j 0) (omega arith)
         (S .opening .done j v ∙ to (keyAt l Open (from + j)))
-        (λ w. S .closing .done j v ∙ to (keyAt l Close (from + j)))
+        (λ w. S .closing .at j v w ∙ to (keyAt l Close (from + j)))
         (λ w. S .symbol .done j v);
   }
     where

@@ -1,6 +1,6 @@
 -- What the indices of a run of trees are, and what slots hold between two calls.
 use Prim.Native.Nat.{ℕ, _+_, _-_, _/_, _<_, _≤_}
-use mathlib.Core.Bool.{Bool}
+use mathlib.Core.Bool.{Bool, true}
 use mathlib.Core.Path.{_≡_}
 use mathlib.Core.List.{List}
 use lib.ListN.{length, getD}
@@ -57,10 +57,26 @@ pub record Midway (t : List ℕ) (table : Layout) (n : ℕ) (l : List ℕ) (keys
   pub todo : (j : ℕ) → a + m ≤ j → j < length out → getD out j 0 ≡ n
   pub leads : (j : ℕ) → Leads (shift (keyAt l keys) base) m j → getD out (a + j) 0 ≡ soFar (isKey (keyAt t table) (shift (keyAt l keys) base j)) n e
 
+-- of the first m trees the close part of a subtree is its open part
+pub record AsOpen (l : List ℕ) (from m : ℕ) : Type 0 where
+  pub at : (j : ℕ) → j < m → 2 < wordOf l (from + j) 0 → keyAt l Close (from + j) ≡ keyAt l Open (from + j)
+
+-- a test that says so
+pub record Tells (r : Bool) (l : List ℕ) (from m : ℕ) : Type 0 where
+  pub yes : r ≡ true → AsOpen l from m
+
+-- the close part of a subtree has its place
+pub record Closed (parts : List ℕ) (g : ℕ) (l : List ℕ) (from m : ℕ) (closes : List ℕ) : Type 0 where
+  pub at : (j : ℕ) → j < m → 2 < wordOf l (from + j) 0 → getD closes j 0 ≡ find (isKey (keyAt parts Part) (keyAt l Close (from + j))) g 0
+
+-- the first m numbers are the same
+pub record Copied (m : ℕ) (a b : List ℕ) : Type 0 where
+  pub at : (j : ℕ) → j < m → getD b j 0 ≡ getD a j 0
+
 -- the first m trees of the run
 pub record Streamed (parts symbols l : List ℕ) (g from m : ℕ) (opens closes syms : List ℕ) : Type 0 where
   pub opening : Placed parts Part g l Open from m opens
-  pub closing : Placed parts Part g l Close from m closes
+  pub closing : Closed parts g l from m closes
   pub symbol : Placed symbols Symbol (length symbols) l Name from m syms
 
 -- r is no less than both bounds allow

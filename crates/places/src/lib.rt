@@ -1,4 +1,5 @@
 // The first places of a list's parts and symbols in their tables.
+pub mod closes;
 pub mod index;
 pub mod key;
 pub mod resolve;

@@ -1,4 +1,5 @@
 // The indices of a run of trees: each key's first place in its table.
+use crate::closes::stream_closes;
 use crate::index::load;
 use crate::index::portion_of;
 use crate::key::Layout;
@@ -11,7 +12,7 @@ ghost use lib.Dec.{leb};
 ghost use lib.ListN.{length};
 ghost use Rattle.places.specs.Key.{keyCount};
 ghost use Rattle.places.specs.Index.{portion, Ready};
-ghost use Rattle.places.specs.Places.{Resolved, Roomy, Indexed, Placed, Streamed, Least};
+ghost use Rattle.places.specs.Places.{Resolved, Roomy, Indexed, Placed, Closed, Streamed, Least};
 ghost use Rattle.places.specs.declared.key.Layout.the-variants.{Part, Symbol, Open, Close, Name};
 
 // The number of parts before the last two.
@@ -88,7 +89,7 @@ fn stream_parts(
     requires { ⌜ (m ≤ length (now opens)) × (m ≤ length (now closes)) ⌝ }
     requires { ⌜ (0 < length (now slots)) × (length (now slots) ≤ 1048576) ⌝ }
     ensures { λ _. ⌜ Placed (now (parts .entry)) Part g (now (l .entry)) Open from m (now (opens .exit)) ⌝ }
-    ensures { λ _. ⌜ Placed (now (parts .entry)) Part g (now (l .entry)) Close from m (now (closes .exit)) ⌝ }
+    ensures { λ _. ⌜ Closed (now (parts .entry)) g (now (l .entry)) from m (now (closes .exit)) ⌝ }
 {
     place_run(
         parts,
@@ -101,17 +102,7 @@ fn stream_parts(
         m,
         opens,
     );
-    place_run(
-        parts,
-        Layout::Part,
-        g,
-        l,
-        Layout::Close,
-        from,
-        slots,
-        m,
-        closes,
-    );
+    stream_closes(l, parts, g, from, m, slots, opens, closes);
 }
 
 fn stream_symbols(
@@ -139,7 +130,7 @@ fn stream_symbols(
     );
 }
 
-// The indices of m trees: each table is read through once for each kind of key.
+// The indices of m trees: each table is read through once.
 fn stream(
     l: &[u32],
     parts: &[u32],

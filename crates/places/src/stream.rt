@@ -165,12 +165,13 @@ fn place_portion(
     spread(t, table, n, l, keys, from, base, slots, a, m, out);
 }
 
-// How many of the keys that are left are taken next.
+// How many of the keys that are left are taken next. Few of the entries are among them: with a quarter of the slots
+// taken, most meet an empty slot first.
 fn next_keys(left: usize, slots: usize) -> usize
     requires { ⌜ (0 < left) × (0 < slots) × (slots ≤ 1048576) ⌝ }
     ensures { λ r. ⌜ (0 < r) × (r ≤ left) × (r ≤ slots) ⌝ }
 {
-    let most = portion_of(slots);
+    let most = portion_of(portion_of(slots));
     if left <= most {
         return left;
     }

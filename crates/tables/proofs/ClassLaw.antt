@@ -1,25 +1,21 @@
 -- The distinct keys of one class are the distinct keys that are of the class.
-use Prim.Native.Nat.{ℕ, zero, suc, _+_, _-_, _*_, _/_, _%_, _<_, _≤_}
-use mathlib.Core.Path.{_≡_, refl, ap, ap₂, sym, _∙_}
+use Prim.Native.Nat.{ℕ, zero, suc, _+_, _*_, _%_, _<_, _≤_}
+use mathlib.Core.Path.{_≡_, refl, ap, sym, _∙_}
 use mathlib.Core.Bool.{Bool, true, false, _&&_, _||_}
-use mathlib.Core.Logic.{_⊎_, inl, inr, ⊎-elim}
 use mathlib.Core.List.{List, [], _∷_, _++_}
 use native.Mathlib.Omega.{arith}
-use lib.ListN.{length, getD, take}
-use lib.Seq.{take-all}
-use lib.Dec.{ltb, leb, eqb}
-use borrow.Author.Tests.{eqb-true, eqb-false, ltb-true, ltb-false, eq-eqb, ne-eqb, lt-ltb, le-ltb, lt-leb}
+use lib.ListN.{length}
+use lib.Dec.{ltb, eqb}
+use borrow.Author.Tests.{eqb-true, eqb-false, ltb-true, ltb-false, lt-ltb, le-ltb, lt-leb}
 use Rattle.format.specs.Test.{if_then_else_}
-use Rattle.format.specs.Distinct.{anyIn, tally, news, hits, times}
+use Rattle.format.specs.Distinct.{anyIn, news, hits, times}
 use Rattle.format.specs.Order.{amount}
 use Rattle.format.specs.MakeTables.{keyCount, liveAt, keyWord, alikeAt, keysOf, timesOf}
-use Rattle.format.proofs.Each.{true-false, and-left, and-right}
-use Rattle.format.proofs.Tally.{lt-or-le, lt-ne, tally-same, tally-step, amount-all}
-use Rattle.format.proofs.KeyLaw.{likeness}
-use Rattle.format.proofs.NewsLaw.{Likeness, news-live}
+use Rattle.format.proofs.Each.{true-false, and-right}
+use Rattle.format.proofs.Tally.{tally-same}
 use Rattle.tables.specs.Keys.{mixOf, classOf, liveIn}
 use Rattle.tables.proofs.KeyReturns.{class-same, scaled-lt}
-use Rattle.tables.proofs.SettleLaw.{amount-last, tally-take}
+use Rattle.tables.proofs.SettleLaw.{amount-last}
 
 -- ---- amounts
 

@@ -1,5 +1,5 @@
 -- Laws for the functions that go class by class.
-use Prim.Native.Nat.{ℕ, zero, suc, _+_, _-_, _*_, _<_, _≤_}
+use Prim.Native.Nat.{ℕ, zero, suc, _+_, _-_, _<_, _≤_}
 use mathlib.Core.Path.{_≡_, refl, ap, ap₂, sym, _∙_, subst}
 use mathlib.Core.Bool.{Bool, true, false, _&&_}
 use mathlib.Core.Logic.{⊎-elim}
@@ -9,21 +9,21 @@ use lib.ListN.{length, getD, set, replicate, length-set, length-replicate}
 use lib.Seq.{getD-set-same, getD-set-other, take-all}
 use lib.Dec.{ltb}
 use Rattle.format.specs.Test.{if_then_else_}
-use Rattle.format.specs.Distinct.{tally, news, times}
+use Rattle.format.specs.Distinct.{tally, news}
 use Rattle.format.specs.Order.{amount}
 use Rattle.format.specs.MakeTables.{alikeAt, keyCount, limitOf, keysOf, timesOf}
 use Rattle.format.proofs.Tally.{lt-or-le, lt-ne, tally-all, tally-same, amount-all}
 use Rattle.format.proofs.NewsLaw.{news-live}
 use Rattle.format.proofs.TableKeys.{keys-many, keys-most}
-use Rattle.tables.specs.Keys.{classOf, liveIn, placeIn}
+use Rattle.tables.specs.Keys.{classOf, liveIn}
 use Rattle.tables.specs.Probe.{Gathered, FilledIf}
 use Rattle.tables.specs.Runs.{Room}
-use Rattle.tables.specs.Pairs.{Behind, Paired}
+use Rattle.tables.specs.Pairs.{Behind}
 use Rattle.tables.specs.Classes.{Copied, below, Held, HeldIf, ClassIf, Scratched, PairedIf, NumberIf}
-use Rattle.tables.proofs.Lists.{eq-or-ne, kept}
+use Rattle.tables.proofs.Lists.{kept}
 use Rattle.tables.proofs.SortLaw.{behind-none, behind-then}
 use Rattle.tables.proofs.SettleLaw.{tally-take, in-least}
-use Rattle.tables.proofs.ClassLaw.{amount-same, amount-most, in-times, news-more, news-zero, news-every}
+use Rattle.tables.proofs.ClassLaw.{amount-most, in-times, news-more, news-zero, news-every}
 
 -- ---- a copy
 

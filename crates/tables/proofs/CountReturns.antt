@@ -1,6 +1,6 @@
 -- Laws for the functions that count the distinct keys.
-use Prim.Native.Nat.{ℕ, zero, suc, _+_, _-_, _*_, _<_, _≤_}
-use mathlib.Core.Path.{_≡_, refl, ap, sym, _∙_}
+use Prim.Native.Nat.{ℕ, suc, _+_, _<_, _≤_}
+use mathlib.Core.Path.{_≡_, refl, sym, _∙_}
 use mathlib.Core.Bool.{Bool, true, false, _&&_}
 use mathlib.Core.Logic.{⊎-elim}
 use mathlib.Core.List.{List, [], _∷_, _++_}
@@ -11,13 +11,14 @@ use borrow.Author.Tests.{le-leb, lt-leb, leb-true}
 use Rattle.format.specs.Test.{if_then_else_}
 use Rattle.format.specs.Distinct.{anyIn, news}
 use Rattle.format.specs.MakeTables.{keyCount, liveAt, alikeAt, keysOf}
-use Rattle.format.proofs.Each.{true-false, and-left, and-right}
+use Rattle.format.proofs.Each.{and-left, and-right}
 use Rattle.format.proofs.Tally.{lt-or-le, any-none, any-at}
 use Rattle.format.proofs.KeyLaw.{likeness}
 use Rattle.format.proofs.NewsLaw.{news-bound, news-live, news-place}
 use Rattle.format.proofs.TableKeys.{keys-many, keys-most}
 use Rattle.tables.specs.Keys.{placeIn}
 use Rattle.tables.specs.Probe.{FilledIf}
+use Rattle.tables.specs.Classes.{NumberIf}
 use Rattle.tables.specs.Count.{sameKey, isMet, fresh, ample, CountIf}
 use Rattle.tables.proofs.TableLaw.{filled-number}
 
@@ -116,7 +117,10 @@ module _ (l : List ℕ) (s : Bool) where
   pub count-known : (m p : ℕ) → CountIf m l s p → p ≤ m → p ≡ length (keysOf l s)
   count-known m p C h = C .known h
 
-pub ruleset count-cases = (count-none, count-more, count-all, count-known)
+  pub count-by-class : (p : ℕ) → NumberIf l s p → p < 4294967295 → p ≡ length (keysOf l s)
+  count-by-class p N h = N .known h
+
+pub ruleset count-cases = (count-by-class, count-none, count-more, count-all, count-known)
 
 -- ---- room
 

@@ -1,19 +1,18 @@
 -- One more key is gathered, and entered into the hash table.
-use Prim.Native.Nat.{ℕ, zero, suc, _+_, _<_, _≤_}
+use Prim.Native.Nat.{ℕ, suc, _+_, _<_, _≤_}
 use mathlib.Core.Path.{_≡_, refl, ap, sym, _∙_}
-use mathlib.Core.Bool.{Bool, true, false, _&&_}
-use mathlib.Core.Logic.{_⊎_, inl, inr, ⊎-elim}
+use mathlib.Core.Bool.{Bool, true, false}
+use mathlib.Core.Logic.{⊎-elim}
 use mathlib.Core.List.{List, [], _∷_, _++_}
 use native.Mathlib.Omega.{arith}
 use lib.ListN.{length, getD, set, replicate, length-set, length-replicate, length-append, List·getD-append}
 use lib.Seq.{getD-set-same, getD-set-other, getD-at}
-use lib.Dec.{eqb}
 use Rattle.format.specs.Test.{if_then_else_}
 use Rattle.format.specs.Distinct.{news, hits, times}
 use Rattle.format.proofs.Tally.{lt-or-le, lt-ne, tally-step}
 use Rattle.format.proofs.NewsLaw.{Likeness, news-dead, news-old, news-new, news-apart, news-unmet}
 use Rattle.tables.specs.Probe.{probe, Gathered, Reached}
-use Rattle.tables.specs.declared.gather.Looked.the-variants.{Found, Empty, Full}
+use Rattle.tables.specs.declared.gather.Looked.the-variants.{Empty}
 use Rattle.tables.proofs.Lists.{eq-or-ne, set-all, zeros-at}
 use Rattle.tables.proofs.ProbeLaw.{probe-miss, probe-empty, probe-keep, probe-new}
 

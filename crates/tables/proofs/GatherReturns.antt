@@ -1,25 +1,23 @@
 -- Laws for the functions that gather: the search for a key, slot after slot, and the ways of entering one.
 use Prim.Native.Nat.{ℕ, zero, suc, _+_, _-_, _<_, _≤_}
-use mathlib.Core.Path.{_≡_, refl, ap, sym, _∙_}
+use mathlib.Core.Path.{_≡_, sym, _∙_}
 use mathlib.Core.Bool.{Bool, true, false}
 use mathlib.Core.List.{List}
 use native.Mathlib.Omega.{arith}
-use lib.ListN.{length, getD, set, replicate, length-set, length-replicate}
-use lib.Dec.{ltb}
+use lib.ListN.{length, getD, set, replicate, length-replicate}
 use borrow.Author.Tests.{lt-ltb, le-ltb}
-use Rattle.format.specs.Test.{if_then_else_}
 use Rattle.format.specs.Distinct.{news}
 use Rattle.format.specs.MakeTables.{keyCount, alikeAt}
 use Rattle.format.proofs.Tally.{tally-most}
 use Rattle.format.proofs.KeyLaw.{likeness}
 use Rattle.format.proofs.NewsLaw.{news-bound}
 use Rattle.tables.specs.Keys.{liveIn, slotOf, likeRank, UpTo, Under}
-use Rattle.tables.specs.Probe.{probe, atSlot, nextSlot, Gathered, Reached, Filled, FilledIf}
+use Rattle.tables.specs.Probe.{probe, atSlot, nextSlot, Filled, FilledIf}
 use Rattle.tables.specs.declared.gather.Looked.{Looked}
 use Rattle.tables.specs.declared.gather.Looked.the-variants.{Found, Empty, Full}
 use Rattle.tables.proofs.Lists.{kept}
 use Rattle.tables.proofs.KeyReturns.{slot-same}
-use Rattle.tables.proofs.ProbeLaw.{probe-found, probe-empty}
+use Rattle.tables.proofs.ProbeLaw.{probe-found}
 use Rattle.tables.proofs.GatherLaw.{gathered-none, gather-dead, gather-found, gather-new, reached-none, reach-none, reach-new}
 
 -- ---- the next slot

@@ -1,15 +1,14 @@
 -- Laws for the functions of keys: where keys stand, when they are alike, where they are looked for, how they are stored.
-use Prim.Native.Nat.{ℕ, zero, suc, _+_, _-_, _*_, _/_, _%_, _<_, _≤_}
-use mathlib.Core.Path.{_≡_, refl, ap, sym, _∙_}
-use mathlib.Core.Bool.{Bool, true, false, _&&_, _||_}
-use mathlib.Core.List.{List, [], _∷_}
+use Prim.Native.Nat.{ℕ, suc, _+_, _-_, _*_, _/_, _%_, _<_, _≤_}
+use mathlib.Core.Path.{_≡_, ap, sym, _∙_}
+use mathlib.Core.Bool.{Bool, true, false, _&&_}
+use mathlib.Core.List.{List}
 use native.Mathlib.Omega.{arith}
 use native.Mathlib.Nat.{mul-le-mul, mul-lt-mul-of-pos-right, div-lt-iff-lt-mul, mul-comm}
 use lib.ListN.{length, getD, set}
 use lib.Seq.{sets}
-use lib.Dec.{leb, eqb}
+use lib.Dec.{eqb}
 use borrow.Author.Tests.{eq-eqb, ne-eqb, le-leb, lt-leb}
-use Rattle.format.specs.Test.{if_then_else_}
 use Rattle.format.specs.MakeTables.{keyCount, liveAt, keyPlace, keyWord, keyWords, alikeAt, limitOf}
 use Rattle.format.proofs.KeyLaw.{alike-words}
 use Rattle.tables.specs.Keys.{mixOf, slotOf, classOf, liveIn, placeIn}

@@ -1,18 +1,18 @@
 -- Laws for the functions that try one size of arrays after the other.
-use Prim.Native.Nat.{ℕ, _+_, _-_, _<_, _≤_}
+use Prim.Native.Nat.{ℕ, _<_, _≤_}
 use mathlib.Core.Path.{_≡_, refl, ap, sym, _∙_, subst}
 use mathlib.Core.Bool.{Bool}
 use mathlib.Core.List.{List}
 use native.Mathlib.Omega.{arith}
-use lib.ListN.{length, getD, take}
+use lib.ListN.{length, getD}
 use lib.Seq.{take-all}
-use Rattle.format.specs.Distinct.{tally}
 use Rattle.format.specs.Order.{amount}
 use Rattle.format.specs.MakeTables.{keyCount, keysOf, timesOf, tableCounts}
 use Rattle.format.proofs.Tally.{tally-same}
 use Rattle.format.proofs.TableKeys.{keys-many, keys-most, counts-many}
 use Rattle.tables.specs.Runs.{Room, Made, MadeIf}
-use Rattle.tables.specs.Pairs.{Behind, Scanned, Paired}
+use Rattle.tables.specs.Pairs.{Scanned, Paired}
+use Rattle.tables.specs.Classes.{PairedIf}
 use Rattle.tables.proofs.Lists.{kept}
 use Rattle.tables.proofs.ScanReturns.{scanned-room, scanned-fits}
 use Rattle.tables.proofs.SettleLaw.{tally-take, put-behind, words-most}
@@ -49,6 +49,24 @@ large-room l s n p w w₁ t t₁ S R = scanned-room l s w t n p w₁ t₁ S R
 
 pub large-fits : (l : List ℕ) (s : Bool) (n p : ℕ) (w w₁ t t₁ : List ℕ) → Scanned l s n p w w₁ t t₁ → n < 4294967295 → p < 4294967295
 large-fits l s n p w w₁ t t₁ S h = scanned-fits l s w t n p w₁ t₁ S n (omega arith) h
+
+module _ (l : List ℕ) (s : Bool) (p : ℕ) (w w₁ t t₁ : List ℕ) (P : PairedIf l s p w w₁ t t₁) where
+  pub quick-room : Room l s w t → Room l s w₁ t₁
+  quick-room R = record { words = rw (P .scratched .words .size) (R .words); tallies = rw (P .scratched .tallies .size) (R .tallies) }
+
+  pub quick-paired : p < 4294967295 → Paired l s p w₁ t₁
+  quick-paired h = P .paired h
+
+  pub quick-made : (q : ℕ) (w₂ t₂ : List ℕ) → Made l s q w₁ w₂ t₁ t₂ → Made l s q w w₂ t t₂
+  quick-made q w₂ t₂ M =
+      let k : length (keysOf l s) ≤ length (tableCounts l s) = omega (arith, counts-many l s, keys-many l s) in
+      record {
+        number = M .number;
+        words = M .words ∙ put-behind (length (keysOf l s)) w w₁ _ (P .scratched .words) (words-most l s (length (keysOf l s)) refl);
+        tallies = M .tallies ∙ put-behind (length (keysOf l s)) t t₁ (tableCounts l s) (P .scratched .tallies) k;
+      }
+
+pub ruleset quick-cases = (kept, quick-room, quick-paired, quick-made)
 
 pub ruleset large-cases = (kept, large-paired, large-made, large-room, large-fits)
 

@@ -11,8 +11,8 @@ pub mod SortReturns
 pub mod ScanReturns
 pub mod SettleLaw
 pub mod SettleReturns
+pub mod ClassLaw
+pub mod ClassReturns
 pub mod LargeReturns
 pub mod CountReturns
 pub mod MakeReturns
-pub mod ClassLaw
-pub mod ClassReturns

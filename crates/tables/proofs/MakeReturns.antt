@@ -1,22 +1,22 @@
 -- Laws for the functions that make both tables.
-use Prim.Native.Nat.{ℕ, suc, _+_, _-_, _*_, _/_, _%_, _<_, _≤_}
+use Prim.Native.Nat.{ℕ, suc, _+_, _*_, _%_, _<_, _≤_}
 use mathlib.Core.Path.{_≡_, refl, ap, ap₂, sym, _∙_, subst}
 use mathlib.Core.Bool.{Bool, true, false, _&&_}
-use mathlib.Core.List.{List, [], _∷_, _++_}
+use mathlib.Core.List.{List, [], _∷_}
 use native.Mathlib.Omega.{arith}
 use lib.ListN.{length, getD, set}
 use lib.Seq.{sets, sets-eq}
 use lib.Dec.{leb, eqb}
 use borrow.Author.Tests.{leb-true, le-leb}
 use Rattle.format.specs.Verdict as format
-use Rattle.format.specs.Verdict.{passed, refused, contents, rule}
+use Rattle.format.specs.Verdict.{passed, refused, rule}
 use Rattle.format.specs.Word.{put}
 use Rattle.format.specs.WordList.{listCount, listSized, listRules, listRows}
 use Rattle.format.specs.MakeTables as tables
-use Rattle.format.specs.MakeTables.{keyCount, keysOf, tableKeys, tableWords, tableCounts, rootParts, partTable, partCounts, symbolTable, symbolCounts, partTotal, tablesVerdict}
+use Rattle.format.specs.MakeTables.{keyCount, keysOf, tableKeys, tableWords, rootParts, partTable, partCounts, symbolTable, symbolCounts, tablesVerdict}
 use Rattle.format.proofs.Each.{both, rule-passed, and₃, and-left, and-right, true-false}
 use Rattle.format.proofs.Put.{put-length}
-use Rattle.format.proofs.TableKeys.{keys-many, counts-many}
+use Rattle.format.proofs.TableKeys.{keys-many}
 use Rattle.format.proofs.TableLaw.{parts-many, part-words, symbols-many, part-counts-many, symbol-counts-many}
 use Rattle.format.proofs.TableRuns as runs
 use Rattle.format.proofs.TableRuns.{made-complete, made-refused, made-short}
@@ -54,9 +54,10 @@ pub ruleset root-cases = (three-stored, root-stored)
 ample-room : (l : List ℕ) (s : Bool) (more : ℕ) (w t : List ℕ) → ample s (length (keysOf l s)) more (length w) (length t) ≡ true
     → (placeIn s (length (keysOf l s)) + more ≤ length w) × (length (keysOf l s) ≤ length t)
 unfolding ample
-ample-room l s more w t e =
-    (leb-true _ _ (and-left (leb (placeIn s (length (keysOf l s)) + more) (length w)) (leb (length (keysOf l s)) (length t)) e),
-    leb-true _ _ (and-right (leb (placeIn s (length (keysOf l s)) + more) (length w)) (leb (length (keysOf l s)) (length t)) e))
+ample-room l s more w t e = (
+  leb-true _ _ (and-left (leb (placeIn s (length (keysOf l s)) + more) (length w)) (leb (length (keysOf l s)) (length t)) e),
+  leb-true _ _ (and-right (leb (placeIn s (length (keysOf l s)) + more) (length w)) (leb (length (keysOf l s)) (length t)) e),
+)
 
 pub room-ample : (l : List ℕ) (s : Bool) (more : ℕ) (w t : List ℕ) → ample s (length (keysOf l s)) more (length w) (length t) ≡ true → Room l s w t
 room-ample l s more w t e = let q = ample-room l s more w t e in record { words = omega (arith, q .0); tallies = q .1 }

@@ -1,9 +1,8 @@
 -- Laws of probing.
-use Prim.Native.Nat.{ℕ, zero, suc, _+_, _-_, _*_, _<_, _≤_}
+use Prim.Native.Nat.{ℕ, zero, suc, _+_, _<_, _≤_}
 use mathlib.Core.Path.{_≡_, refl, ap, sym, _∙_, subst}
 use mathlib.Core.Bool.{Bool, true, false}
-use mathlib.Core.Logic.{_⊎_, inl, inr, ⊎-elim}
-use mathlib.Core.List.{List, [], _∷_}
+use mathlib.Core.List.{List}
 use native.Mathlib.Omega.{arith}
 use lib.ListN.{length, getD, set}
 use lib.Seq.{getD-set-same, getD-set-other}
@@ -13,7 +12,6 @@ use Rattle.format.specs.Test.{if_then_else_}
 use Rattle.tables.specs.Probe.{probe, atSlot, nextSlot}
 use Rattle.tables.specs.declared.gather.Looked.{Looked}
 use Rattle.tables.specs.declared.gather.Looked.the-variants.{Found, Empty, Full}
-use Rattle.tables.proofs.Lists.{differ}
 
 abbrev number : Looked → ℕ
 number (Found e) = 0

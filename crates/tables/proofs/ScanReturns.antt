@@ -1,6 +1,6 @@
 -- Laws for the functions that gather keys in the lent runs.
 use Prim.Native.Nat.{ℕ, zero, suc, _+_, _-_, _<_, _≤_}
-use mathlib.Core.Path.{_≡_, refl, ap, sym, _∙_}
+use mathlib.Core.Path.{_≡_, ap, sym, _∙_}
 use mathlib.Core.Bool.{Bool, true, false}
 use mathlib.Core.Logic.{⊎-elim}
 use mathlib.Core.List.{List, [], _∷_, _++_}
@@ -12,7 +12,7 @@ use Rattle.format.specs.Distinct.{anyIn, tally, news}
 use Rattle.format.specs.MakeTables.{keyCount, liveAt, alikeAt, keysOf}
 use Rattle.format.proofs.KeyLaw.{likeness}
 use Rattle.format.proofs.NewsLaw.{news-bound, news-most, news-new}
-use Rattle.format.proofs.Tally.{lt-or-le, lt-ne, tally-most}
+use Rattle.format.proofs.Tally.{lt-or-le, tally-most}
 use Rattle.tables.specs.Keys.{Under, placeIn}
 use Rattle.tables.specs.Probe.{Gathered}
 use Rattle.tables.specs.Runs.{Room}

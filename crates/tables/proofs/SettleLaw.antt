@@ -1,29 +1,28 @@
 -- Pairs in order are the table's keys and counts, and the numbers give way to the keys' words.
-use Prim.Native.Nat.{ℕ, zero, suc, _+_, _-_, _*_, _<_, _≤_}
-use mathlib.Core.Path.{_≡_, refl, ap, ap₂, sym, _∙_, subst}
-use mathlib.Core.Bool.{Bool, true, false, not, _&&_, _||_}
-use mathlib.Core.Logic.{_⊎_, inl, inr, ⊎-elim}
-use mathlib.Core.List.{List, [], _∷_, _++_, map, append-assoc}
+use Prim.Native.Nat.{ℕ, zero, suc, _+_, _-_, _<_, _≤_}
+use mathlib.Core.Path.{_≡_, refl, ap, sym, _∙_}
+use mathlib.Core.Bool.{Bool, true, false, not}
+use mathlib.Core.Logic.{⊎-elim}
+use mathlib.Core.List.{List, [], _∷_, _++_, append-assoc}
 use native.Mathlib.Omega.{arith}
-use lib.ListN.{length, getD, set, take, drop, length-drop, List·getD-append}
-use lib.Seq.{sets, sets-eq, drop-cons, drop-at, drop-drop, getD-take, getD-drop, getD-set-other, ext-getD, take-suc, length-take-le, length-sets, drop-length}
-use lib.Dec.{ltb, eqb}
-use borrow.Author.Tests.{eqb-true, ltb-true, eq-eqb, ne-eqb, lt-ltb, le-ltb, ltb-false, eqb-false}
+use lib.ListN.{length, getD, take, drop, length-drop, List·getD-append}
+use lib.Seq.{sets, sets-eq, drop-cons, drop-at, getD-take, getD-drop, ext-getD, take-suc, length-take-le, length-sets, drop-length}
+use lib.Dec.{eqb}
+use borrow.Author.Tests.{eqb-true, eq-eqb}
 use Rattle.format.specs.Test.{if_then_else_}
 use Rattle.format.specs.Word.{put}
 use Rattle.format.specs.Distinct.{tally}
 use Rattle.format.specs.Order.{before, amount, AllIn, Sorted}
 use Rattle.format.specs.MakeTables.{keyCount, liveAt, alikeAt, keyWords, limitOf, keysOf, timesOf, tableKeys, wordsOf, tableWords, tableCounts}
 use Rattle.format.proofs.Each.{true-false}
-use Rattle.format.proofs.Tally.{lt-or-le, lt-ne, tally-none, tally-step, tally-most, amount-some, amount-one}
+use Rattle.format.proofs.Tally.{lt-or-le, tally-none, amount-some, amount-one}
 use Rattle.format.proofs.NewsLaw.{news-rising}
-use Rattle.format.proofs.OrderLaw.{before-cases, before-more, before-tie, map-at}
+use Rattle.format.proofs.OrderLaw.{before-cases, before-more, before-tie}
 use Rattle.format.proofs.TableRuns.{run-length, run-front, run-behind}
 use Rattle.format.proofs.TableKeys.{keys-many, in-turn, only-order, count-at, counts-many}
 use Rattle.tables.specs.Keys.{placeIn}
-use Rattle.tables.specs.Runs.{keyAt, Room, Made}
+use Rattle.tables.specs.Runs.{keyAt}
 use Rattle.tables.specs.Pairs.{Behind, sooner, Rising, Shuffled, Paired, Settled, Expanding}
-use Rattle.tables.proofs.Lists.{eq-or-ne}
 use Rattle.tables.proofs.TableLaw.{in-step, in-mono, words-length}
 
 -- ---- a tally over places is an amount of elements

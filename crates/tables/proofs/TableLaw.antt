@@ -1,6 +1,6 @@
 -- Laws of the table: its keys are stored one behind the other, and the arrays of the gathered keys are ready for it.
 use Prim.Native.Nat.{ℕ, zero, suc, _+_, _*_, _<_, _≤_}
-use mathlib.Core.Path.{_≡_, refl, ap, ap₂, sym, _∙_}
+use mathlib.Core.Path.{_≡_, refl, ap, sym, _∙_}
 use mathlib.Core.Bool.{Bool, true, false}
 use mathlib.Core.List.{List, [], _∷_, _++_, map, append-assoc}
 use native.Mathlib.Omega.{arith}
@@ -11,10 +11,10 @@ use lib.Dec.{leb}
 use Rattle.format.specs.Test.{if_then_else_}
 use Rattle.format.specs.Word.{put}
 use Rattle.format.specs.Order.{range, before, insert, falling, ordered, AllIn}
-use Rattle.format.specs.MakeTables.{keyCount, liveAt, keyWords, limitOf, keysOf, timesOf, tableKeys, wordsOf, tableWords, tableCounts}
+use Rattle.format.specs.MakeTables.{keyCount, keyWords, limitOf, keysOf, timesOf, tableKeys, wordsOf, tableWords, tableCounts}
 use Rattle.format.proofs.Put.{put-length}
 use Rattle.format.proofs.OrderLaw.{all-mono, map-at, falling-bound, ordered-length, ordered-lt}
-use Rattle.format.proofs.TableKeys.{keys-many, key-below}
+use Rattle.format.proofs.TableKeys.{keys-many}
 use Rattle.pack.proofs.Store.{put-put, put-none}
 use Rattle.tables.specs.Keys.{liveIn, placeIn}
 use Rattle.tables.specs.Probe.{Filled}

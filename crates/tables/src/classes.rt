@@ -4,13 +4,12 @@ use crate::gather::gather;
 use crate::keys::get_at;
 use crate::keys::limit_of;
 ghost use mathlib.Core.Path.{_≡_};
-ghost use mathlib.Core.Bool.{Bool, true, false};
 ghost use Prim.Native.Nat.{_+_, _≤_, _<_};
 ghost use lib.ListN.{length, getD, set};
-ghost use Rattle.format.specs.MakeTables.{keyCount, keysOf};
+ghost use Rattle.format.specs.MakeTables.{keyCount};
 ghost use Rattle.tables.specs.Probe.{Filled};
 ghost use Rattle.tables.specs.Runs.{Room};
-ghost use Rattle.tables.specs.Classes.{Copied, below, Held, HeldIf, ClassIf, Scratched, PairedIf, NumberIf};
+ghost use Rattle.tables.specs.Classes.{Copied, Held, HeldIf, ClassIf, PairedIf, NumberIf};
 
 // The answer where even the most classes have too many keys, which only keys chosen for it do.
 const UNKNOWN: usize = 4294967295;
@@ -34,7 +33,14 @@ fn copy(from: &[u32], q: usize, at: usize, to: &mut [u32])
 }
 
 // Numbers and counts join the pairs.
-fn append(firsts: &[u32], counts: &[u32], q: usize, at: usize, words: &mut [u32], tallies: &mut [u32])
+fn append(
+    firsts: &[u32],
+    counts: &[u32],
+    q: usize,
+    at: usize,
+    words: &mut [u32],
+    tallies: &mut [u32],
+)
     requires { ⌜ (at + q ≤ length (now words)) × (at + q ≤ length (now tallies)) ⌝ }
     ensures { λ _. ⌜ Copied at q (now (firsts .entry)) (now (words .entry)) (now (words .exit)) ⌝ }
     ensures { λ _. ⌜ Copied at q (now (counts .entry)) (now (tallies .entry)) (now (tallies .exit)) ⌝ }
@@ -61,7 +67,8 @@ fn join_class(
     requires { ⌜ (0 < length (now table)) × (length (now table) ≤ 1048576) ⌝ }
     requires { ⌜ (length (now firsts) ≤ 1048576) × (length (now counts) ≡ length (now firsts)) ⌝ }
     requires { ⌜ Filled (now l) symbols classes class (length (now table)) 0 0 (now table) (now firsts) (now counts) ⌝ }
-    requires { ⌜ Room (now l) symbols (now words) (now tallies) × Held (now l) symbols classes class at (now words) (now tallies) ⌝ }
+    requires { ⌜ Room (now l) symbols (now words) (now tallies)
+        × Held (now l) symbols classes class at (now words) (now tallies) ⌝ }
     ensures { λ r. ⌜ HeldIf (now (l .entry)) symbols classes (length (now (firsts .entry))) class at r
         (now (words .entry)) (now (words .exit)) (now (tallies .entry)) (now (tallies .exit)) ⌝ }
 {
@@ -85,7 +92,8 @@ fn one_class(
     tallies: &mut [u32],
 ) -> usize
     requires { ⌜ (n ≡ keyCount (now l) symbols) × (n < 4294967295) × (1 < classes) × (classes ≤ 1048576) ⌝ }
-    requires { ⌜ Room (now l) symbols (now words) (now tallies) × Held (now l) symbols classes class at (now words) (now tallies) ⌝ }
+    requires { ⌜ Room (now l) symbols (now words) (now tallies)
+        × Held (now l) symbols classes class at (now words) (now tallies) ⌝ }
     ensures { λ r. ⌜ HeldIf (now (l .entry)) symbols classes 32768 class at r
         (now (words .entry)) (now (words .exit)) (now (tallies .entry)) (now (tallies .exit)) ⌝ }
 {
@@ -108,10 +116,18 @@ fn one_class(
 }
 
 // The pairs of all classes.
-fn by_class(l: &[u32], symbols: bool, n: usize, classes: usize, words: &mut [u32], tallies: &mut [u32]) -> usize
+fn by_class(
+    l: &[u32],
+    symbols: bool,
+    n: usize,
+    classes: usize,
+    words: &mut [u32],
+    tallies: &mut [u32],
+) -> usize
     requires { ⌜ (n ≡ keyCount (now l) symbols) × (n < 4294967295) × (1 < classes) × (classes ≤ 1048576) ⌝ }
     requires { ⌜ Room (now l) symbols (now words) (now tallies) ⌝ }
-    ensures { λ r. ⌜ PairedIf (now (l .entry)) symbols r (now (words .entry)) (now (words .exit)) (now (tallies .entry)) (now (tallies .exit)) ⌝ }
+    ensures { λ r. ⌜ PairedIf (now (l .entry)) symbols r
+        (now (words .entry)) (now (words .exit)) (now (tallies .entry)) (now (tallies .exit)) ⌝ }
 {
     let mut k: usize = 0;
     let mut p: usize = 0;
@@ -130,10 +146,17 @@ fn by_class(l: &[u32], symbols: bool, n: usize, classes: usize, words: &mut [u32
 }
 
 // The pairs, with as many classes as it takes, up to 256.
-pub fn by_classes(l: &[u32], symbols: bool, n: usize, words: &mut [u32], tallies: &mut [u32]) -> usize
+pub fn by_classes(
+    l: &[u32],
+    symbols: bool,
+    n: usize,
+    words: &mut [u32],
+    tallies: &mut [u32],
+) -> usize
     requires { ⌜ (n ≡ keyCount (now l) symbols) × (n < 4294967295) ⌝ }
     requires { ⌜ Room (now l) symbols (now words) (now tallies) ⌝ }
-    ensures { λ r. ⌜ PairedIf (now (l .entry)) symbols r (now (words .entry)) (now (words .exit)) (now (tallies .entry)) (now (tallies .exit)) ⌝ }
+    ensures { λ r. ⌜ PairedIf (now (l .entry)) symbols r
+        (now (words .entry)) (now (words .exit)) (now (tallies .entry)) (now (tallies .exit)) ⌝ }
 {
     let mut classes: usize = 2;
     while classes <= 256 {

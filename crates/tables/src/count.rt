@@ -1,17 +1,14 @@
 // How many distinct keys a list has, with nothing stored.
+use crate::classes::count_by_classes;
 use crate::gather::gather;
 use crate::keys::alike;
 use crate::keys::key_count;
 use crate::keys::live;
 use crate::keys::place_in;
 ghost use mathlib.Core.Path.{_≡_};
-ghost use mathlib.Core.Bool.{Bool, true, false, _&&_};
-ghost use Prim.Native.Nat.{_+_, _≤_, _<_};
+ghost use Prim.Native.Nat.{_≤_, _<_};
 ghost use lib.ListN.{length};
-ghost use lib.Dec.{leb};
-ghost use Rattle.format.specs.Distinct.{news};
-ghost use Rattle.format.specs.MakeTables.{keyCount, liveAt, alikeAt, keysOf};
-ghost use Rattle.tables.specs.Keys.{placeIn};
+ghost use Rattle.format.specs.MakeTables.{keyCount, keysOf};
 ghost use Rattle.tables.specs.Count.{sameKey, isMet, fresh, ample, CountIf};
 
 // The number, if it is no more than 1,024.
@@ -77,7 +74,7 @@ fn one_if_fresh(l: &[u32], symbols: bool, v: usize) -> usize
 }
 
 // The number, for any keys: slow.
-fn count_large(l: &[u32], symbols: bool, n: usize) -> usize
+fn count_slowly(l: &[u32], symbols: bool, n: usize) -> usize
     requires { ⌜ (n ≡ keyCount (now l) symbols) × (n < 4294967295) ⌝ }
     ensures { λ r. ⌜ r ≡ length (keysOf (now (l .entry)) symbols) ⌝ }
 {
@@ -88,6 +85,17 @@ fn count_large(l: &[u32], symbols: bool, n: usize) -> usize
         v = v + 1;
     }
     p
+}
+
+fn count_large(l: &[u32], symbols: bool, n: usize) -> usize
+    requires { ⌜ (n ≡ keyCount (now l) symbols) × (n < 4294967295) ⌝ }
+    ensures { λ r. ⌜ r ≡ length (keysOf (now (l .entry)) symbols) ⌝ }
+{
+    let p = count_by_classes(l, symbols, n);
+    if p < 4294967295 {
+        return p;
+    }
+    count_slowly(l, symbols, n)
 }
 
 // Small arrays first, as for the table itself.

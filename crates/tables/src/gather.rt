@@ -6,9 +6,9 @@ use crate::keys::set_at;
 use crate::keys::size;
 use crate::keys::slot;
 ghost use mathlib.Core.Path.{_≡_};
-ghost use mathlib.Core.Bool.{Bool, true, false};
-ghost use Prim.Native.Nat.{_+_, _*_, _/_, _≤_, _<_};
-ghost use lib.ListN.{length, getD, set};
+ghost use mathlib.Core.Bool.{true};
+ghost use Prim.Native.Nat.{_+_, _≤_, _<_};
+ghost use lib.ListN.{length, set};
 ghost use Rattle.format.specs.MakeTables.{keyCount};
 ghost use Rattle.tables.specs.Keys.{liveIn, likeRank, UpTo, Under};
 ghost use Rattle.tables.specs.Probe.{probe, nextSlot, Filled, FilledIf};
@@ -30,7 +30,15 @@ fn next_slot(s: usize, size: usize) -> usize
 }
 
 // Looks for key v from a slot on, among p ranks.
-fn look(l: &[u32], symbols: bool, v: usize, p: usize, table: &[u32], firsts: &[u32], start: usize) -> Looked
+fn look(
+    l: &[u32],
+    symbols: bool,
+    v: usize,
+    p: usize,
+    table: &[u32],
+    firsts: &[u32],
+    start: usize,
+) -> Looked
     requires { ⌜ (v < keyCount (now l) symbols) × (keyCount (now l) symbols < 4294967295) ⌝ }
     requires { ⌜ (start < length (now table)) × (p ≤ length (now firsts)) ⌝ }
     requires { ⌜ UpTo p (now table) × Under p (keyCount (now l) symbols) (now firsts) ⌝ }
@@ -55,7 +63,14 @@ fn look(l: &[u32], symbols: bool, v: usize, p: usize, table: &[u32], firsts: &[u
 }
 
 // Key v is the first of rank p, and slot s is its.
-fn join(v: usize, p: usize, s: usize, table: &mut [u32], firsts: &mut [u32], counts: &mut [u32]) -> usize
+fn join(
+    v: usize,
+    p: usize,
+    s: usize,
+    table: &mut [u32],
+    firsts: &mut [u32],
+    counts: &mut [u32],
+) -> usize
     requires { ⌜ (v < 4294967295) × (p < 4294967295) ⌝ }
     ensures { λ r. ⌜ r ≡ p + 1 ⌝ }
     ensures { λ _. ⌜ now (table .exit) ≡ set (now (table .entry)) s (p + 1) ⌝ }
@@ -83,10 +98,12 @@ fn enter_key(
 ) -> usize
     requires { ⌜ (v < keyCount (now l) symbols) × (keyCount (now l) symbols < 4294967295) × (classes ≤ 1048576) ⌝ }
     requires { ⌜ (0 < length (now table)) × (length (now table) ≤ 1048576) ⌝ }
-    requires { ⌜ (p ≤ length (now firsts)) × (length (now firsts) ≤ 1048576) × (length (now counts) ≡ length (now firsts)) ⌝ }
+    requires { ⌜ (p ≤ length (now firsts)) × (length (now firsts) ≤ 1048576)
+        × (length (now counts) ≡ length (now firsts)) ⌝ }
     requires { ⌜ Filled (now l) symbols classes class (length (now table)) v p (now table) (now firsts) (now counts) ⌝ }
     requires { ⌜ liveIn (now l) symbols classes class v ≡ true ⌝ }
-    ensures { λ r. ⌜ FilledIf (length (now (firsts .entry))) (now (l .entry)) symbols classes class (length (now (table .entry)))
+    ensures { λ r. ⌜ FilledIf (length (now (firsts .entry))) (now (l .entry)) symbols classes class
+        (length (now (table .entry)))
         (v + 1) r (now (table .exit)) (now (firsts .exit)) (now (counts .exit)) ⌝ }
 {
     let room = firsts.len();
@@ -119,9 +136,11 @@ fn enter(
 ) -> usize
     requires { ⌜ (v < keyCount (now l) symbols) × (keyCount (now l) symbols < 4294967295) × (classes ≤ 1048576) ⌝ }
     requires { ⌜ (0 < length (now table)) × (length (now table) ≤ 1048576) ⌝ }
-    requires { ⌜ (p ≤ length (now firsts)) × (length (now firsts) ≤ 1048576) × (length (now counts) ≡ length (now firsts)) ⌝ }
+    requires { ⌜ (p ≤ length (now firsts)) × (length (now firsts) ≤ 1048576)
+        × (length (now counts) ≡ length (now firsts)) ⌝ }
     requires { ⌜ Filled (now l) symbols classes class (length (now table)) v p (now table) (now firsts) (now counts) ⌝ }
-    ensures { λ r. ⌜ FilledIf (length (now (firsts .entry))) (now (l .entry)) symbols classes class (length (now (table .entry)))
+    ensures { λ r. ⌜ FilledIf (length (now (firsts .entry))) (now (l .entry)) symbols classes class
+        (length (now (table .entry)))
         (v + 1) r (now (table .exit)) (now (firsts .exit)) (now (counts .exit)) ⌝ }
 {
     if live_in(l, symbols, classes, class, v) {
@@ -145,7 +164,8 @@ pub fn gather(
     requires { ⌜ (0 < length (now table)) × (length (now table) ≤ 1048576) ⌝ }
     requires { ⌜ (length (now firsts) ≤ 1048576) × (length (now counts) ≡ length (now firsts)) ⌝ }
     requires { ⌜ Filled (now l) symbols classes class (length (now table)) 0 0 (now table) (now firsts) (now counts) ⌝ }
-    ensures { λ r. ⌜ FilledIf (length (now (firsts .entry))) (now (l .entry)) symbols classes class (length (now (table .entry)))
+    ensures { λ r. ⌜ FilledIf (length (now (firsts .entry))) (now (l .entry)) symbols classes class
+        (length (now (table .entry)))
         n r (now (table .exit)) (now (firsts .exit)) (now (counts .exit)) ⌝ }
 {
     let room = firsts.len();

@@ -1,6 +1,5 @@
 // The keys of a list, by their numbers: their places, what two of them have in common, their hashes.
 ghost use mathlib.Core.Path.{_≡_};
-ghost use mathlib.Core.Bool.{Bool, true, false};
 ghost use Prim.Native.Nat.{_+_, _*_, _/_, _≤_, _<_};
 ghost use lib.ListN.{length, getD, set};
 ghost use lib.Seq.{sets};
@@ -217,7 +216,8 @@ pub fn limit_of(symbols: bool) -> usize
 // Stores key v as the k-th of a run.
 pub fn put_key(l: &[u32], symbols: bool, v: usize, out: &mut [u32], k: usize)
     requires { ⌜ (v < keyCount (now l) symbols) × (v < 4294967295) × (k < 4294967295) ⌝ }
-    ensures { λ _. ⌜ now (out .exit) ≡ sets (now (out .entry)) (placeIn symbols k) (keyWords (now (l .entry)) symbols v) ⌝ }
+    ensures { λ _. ⌜ now (out .exit) ≡ sets (now (out .entry)) (placeIn symbols k)
+        (keyWords (now (l .entry)) symbols v) ⌝ }
 {
     let a = place_of(l, symbols, v);
     if symbols {

@@ -1,11 +1,11 @@
 // The tables of a list: its distinct span parts and symbols with their counts.
-pub mod keys;
-pub mod gather;
-pub mod order;
-pub mod table;
-pub mod sort;
-pub mod scan;
-pub mod settle;
-pub mod count;
+mod classes;
+mod count;
+mod gather;
+mod keys;
 pub mod make;
-pub mod classes;
+mod order;
+mod scan;
+mod settle;
+mod sort;
+mod table;

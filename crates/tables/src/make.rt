@@ -9,7 +9,7 @@ use tree::refusal::Verdict;
 ghost use mathlib.Core.Path.{_≡_};
 ghost use mathlib.Core.Bool.{true, false};
 ghost use mathlib.Core.List.{[], _∷_};
-ghost use Prim.Native.Nat.{_+_, _*_, _≤_, _<_};
+ghost use Prim.Native.Nat.{_<_};
 ghost use lib.ListN.{length};
 ghost use lib.Seq.{sets};
 ghost use Rattle.format.specs.Verdict.{passed};
@@ -44,8 +44,10 @@ fn put_root(l: &[u32], out: &mut [u32], at: usize)
 
 // The part table: the parts below the root, then the root's two. The answer is how many there are.
 fn make_parts(l: &[u32], parts: &mut [u32], tallies: &mut [u32]) -> usize
-    requires { ⌜ (keyCount (now l) false < 4294967295) × (ample false (length (keysOf (now l) false)) 6 (length (now parts)) (length (now tallies)) ≡ true) ⌝ }
-    ensures { λ r. ⌜ PartsMade (now (l .entry)) r (now (parts .entry)) (now (parts .exit)) (now (tallies .entry)) (now (tallies .exit)) ⌝ }
+    requires { ⌜ (keyCount (now l) false < 4294967295)
+        × (ample false (length (keysOf (now l) false)) 6 (length (now parts)) (length (now tallies)) ≡ true) ⌝ }
+    ensures { λ r. ⌜ PartsMade (now (l .entry)) r
+        (now (parts .entry)) (now (parts .exit)) (now (tallies .entry)) (now (tallies .exit)) ⌝ }
 {
     let p = make_table(l, false, parts, tallies);
     put_root(l, parts, 3 * p);
@@ -61,14 +63,20 @@ fn make_both(
     symbol_counts: &mut [u32],
 ) -> TablesReport
     requires { ⌜ listRows (now l) ≡ passed ⌝ }
-    requires { ⌜ ample false (length (keysOf (now l) false)) 6 (length (now parts)) (length (now «part_counts»)) ≡ true ⌝ }
-    requires { ⌜ ample true (length (keysOf (now l) true)) 0 (length (now symbols)) (length (now «symbol_counts»)) ≡ true ⌝ }
-    ensures { λ r. ⌜ TablesDone (now (l .entry)) (now (parts .entry)) (now («part_counts» .entry)) (now (symbols .entry)) (now («symbol_counts» .entry))
+    requires { ⌜ ample false (length (keysOf (now l) false)) 6
+        (length (now parts)) (length (now «part_counts»)) ≡ true ⌝ }
+    requires { ⌜ ample true (length (keysOf (now l) true)) 0
+        (length (now symbols)) (length (now «symbol_counts»)) ≡ true ⌝ }
+    ensures { λ r. ⌜ TablesDone (now (l .entry)) (now (parts .entry))
+        (now («part_counts» .entry)) (now (symbols .entry)) (now («symbol_counts» .entry))
         r (now (parts .exit)) (now («part_counts» .exit)) (now (symbols .exit)) (now («symbol_counts» .exit)) ⌝ }
 {
     let s = make_table(l, true, symbols, symbol_counts);
     let p = make_parts(l, parts, part_counts);
-    TablesReport::Made { parts: p, symbols: s }
+    TablesReport::Made {
+        parts: p,
+        symbols: s,
+    }
 }
 
 // The tables of a list that has passed rows 1 to 4. Nothing is stored before both are known to have room.
@@ -80,7 +88,8 @@ fn make_if_room(
     symbol_counts: &mut [u32],
 ) -> TablesReport
     requires { ⌜ listRows (now l) ≡ passed ⌝ }
-    ensures { λ r. ⌜ TablesDone (now (l .entry)) (now (parts .entry)) (now («part_counts» .entry)) (now (symbols .entry)) (now («symbol_counts» .entry))
+    ensures { λ r. ⌜ TablesDone (now (l .entry)) (now (parts .entry))
+        (now («part_counts» .entry)) (now (symbols .entry)) (now («symbol_counts» .entry))
         r (now (parts .exit)) (now («part_counts» .exit)) (now (symbols .exit)) (now («symbol_counts» .exit)) ⌝ }
 {
     if has_room(l, false, 6, parts.len(), part_counts.len()) {
@@ -99,7 +108,8 @@ pub fn compute_span_frequencies_and_symbols(
     symbols: &mut [u32],
     symbol_counts: &mut [u32],
 ) -> TablesReport
-    ensures { λ r. ⌜ TablesDone (now (l .entry)) (now (parts .entry)) (now («part_counts» .entry)) (now (symbols .entry)) (now («symbol_counts» .entry))
+    ensures { λ r. ⌜ TablesDone (now (l .entry)) (now (parts .entry))
+        (now («part_counts» .entry)) (now (symbols .entry)) (now («symbol_counts» .entry))
         r (now (parts .exit)) (now («part_counts» .exit)) (now (symbols .exit)) (now («symbol_counts» .exit)) ⌝ }
 {
     match list_rows(l) {

@@ -7,14 +7,13 @@ use crate::keys::raise;
 use crate::keys::set_at;
 use crate::keys::size;
 ghost use mathlib.Core.Path.{_≡_};
-ghost use mathlib.Core.Bool.{Bool, true, false};
-ghost use Prim.Native.Nat.{_+_, _≤_, _<_};
-ghost use lib.ListN.{length, getD, set};
+ghost use mathlib.Core.Bool.{true};
+ghost use Prim.Native.Nat.{_+_, _<_};
 ghost use Rattle.format.specs.MakeTables.{keyCount, liveAt, alikeAt};
 ghost use Rattle.tables.specs.Keys.{Under};
 ghost use Rattle.tables.specs.Probe.{Gathered};
 ghost use Rattle.tables.specs.Runs.{Room};
-ghost use Rattle.tables.specs.Pairs.{Behind, Sought, Scanned, Paired};
+ghost use Rattle.tables.specs.Pairs.{Sought, Scanned};
 
 // The first of p numbers that is the same key as v, or p.
 fn find(l: &[u32], symbols: bool, v: usize, p: usize, words: &[u32]) -> usize
@@ -33,12 +32,20 @@ fn find(l: &[u32], symbols: bool, v: usize, p: usize, words: &[u32]) -> usize
 }
 
 // Key v, which is one, joins the p keys before it or is counted.
-fn scan_key(l: &[u32], symbols: bool, v: usize, p: usize, words: &mut [u32], tallies: &mut [u32]) -> usize
+fn scan_key(
+    l: &[u32],
+    symbols: bool,
+    v: usize,
+    p: usize,
+    words: &mut [u32],
+    tallies: &mut [u32],
+) -> usize
     requires { ⌜ (v < keyCount (now l) symbols) × (keyCount (now l) symbols < 4294967295) × (p < 4294967295) ⌝ }
     requires { ⌜ liveAt (now l) symbols v ≡ true ⌝ }
     requires { ⌜ Gathered (liveAt (now l) symbols) (alikeAt (now l) symbols) v p (now words) (now tallies) ⌝ }
     requires { ⌜ Room (now l) symbols (now words) (now tallies) ⌝ }
-    ensures { λ r. ⌜ Scanned (now (l .entry)) symbols (v + 1) r (now (words .entry)) (now (words .exit)) (now (tallies .entry)) (now (tallies .exit)) ⌝ }
+    ensures { λ r. ⌜ Scanned (now (l .entry)) symbols (v + 1) r
+        (now (words .entry)) (now (words .exit)) (now (tallies .entry)) (now (tallies .exit)) ⌝ }
 {
     let e = find(l, symbols, v, p, words);
     if e < p {
@@ -51,11 +58,19 @@ fn scan_key(l: &[u32], symbols: bool, v: usize, p: usize, words: &mut [u32], tal
     next
 }
 
-fn scan_one(l: &[u32], symbols: bool, v: usize, p: usize, words: &mut [u32], tallies: &mut [u32]) -> usize
+fn scan_one(
+    l: &[u32],
+    symbols: bool,
+    v: usize,
+    p: usize,
+    words: &mut [u32],
+    tallies: &mut [u32],
+) -> usize
     requires { ⌜ (v < keyCount (now l) symbols) × (keyCount (now l) symbols < 4294967295) × (p < 4294967295) ⌝ }
     requires { ⌜ Gathered (liveAt (now l) symbols) (alikeAt (now l) symbols) v p (now words) (now tallies) ⌝ }
     requires { ⌜ Room (now l) symbols (now words) (now tallies) ⌝ }
-    ensures { λ r. ⌜ Scanned (now (l .entry)) symbols (v + 1) r (now (words .entry)) (now (words .exit)) (now (tallies .entry)) (now (tallies .exit)) ⌝ }
+    ensures { λ r. ⌜ Scanned (now (l .entry)) symbols (v + 1) r
+        (now (words .entry)) (now (words .exit)) (now (tallies .entry)) (now (tallies .exit)) ⌝ }
 {
     if live(l, symbols, v) {
         return scan_key(l, symbols, v, p, words, tallies);
@@ -67,7 +82,8 @@ fn scan_one(l: &[u32], symbols: bool, v: usize, p: usize, words: &mut [u32], tal
 pub fn scan(l: &[u32], symbols: bool, n: usize, words: &mut [u32], tallies: &mut [u32]) -> usize
     requires { ⌜ (n ≡ keyCount (now l) symbols) × (n < 4294967295) ⌝ }
     requires { ⌜ Room (now l) symbols (now words) (now tallies) ⌝ }
-    ensures { λ r. ⌜ Scanned (now (l .entry)) symbols n r (now (words .entry)) (now (words .exit)) (now (tallies .entry)) (now (tallies .exit)) ⌝ }
+    ensures { λ r. ⌜ Scanned (now (l .entry)) symbols n r
+        (now (words .entry)) (now (words .exit)) (now (tallies .entry)) (now (tallies .exit)) ⌝ }
 {
     let mut v: usize = 0;
     let mut p: usize = 0;

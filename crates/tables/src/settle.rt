@@ -5,9 +5,8 @@ use crate::keys::put_key;
 use crate::keys::size;
 use crate::sort::sort;
 ghost use mathlib.Core.Path.{_≡_};
-ghost use mathlib.Core.Bool.{Bool, true, false};
-ghost use Prim.Native.Nat.{_+_, _≤_, _<_};
-ghost use lib.ListN.{length, getD, set};
+ghost use Prim.Native.Nat.{_≤_, _<_};
+ghost use lib.ListN.{length};
 ghost use Rattle.format.specs.MakeTables.{keyCount};
 ghost use Rattle.format.specs.Word.{put};
 ghost use Rattle.format.specs.MakeTables.{tableWords};
@@ -20,7 +19,8 @@ fn put_in_order(symbols: bool, p: usize, l: &[u32], words: &mut [u32], tallies: 
     requires { ⌜ (p ≤ length (now words)) × (p ≤ length (now tallies)) ⌝ }
     requires { ⌜ Paired (now l) symbols p (now words) (now tallies) ⌝ }
     ensures { λ _. ⌜ Settled (now (l .entry)) symbols p (now (words .exit)) (now (tallies .exit)) ⌝ }
-    ensures { λ _. ⌜ Behind p (now (words .entry)) (now (words .exit)) × Behind p (now (tallies .entry)) (now (tallies .exit)) ⌝ }
+    ensures { λ _. ⌜ Behind p (now (words .entry)) (now (words .exit))
+        × Behind p (now (tallies .entry)) (now (tallies .exit)) ⌝ }
 {
     if p <= limit_of(symbols) {
         return;
@@ -31,7 +31,8 @@ fn put_in_order(symbols: bool, p: usize, l: &[u32], words: &mut [u32], tallies: 
 // The numbers give way to the words, the last one first: no number is overwritten before its turn.
 fn expand(l: &[u32], symbols: bool, p: usize, words: &mut [u32], tallies: &[u32])
     requires { ⌜ (p < 4294967295) × (keyCount (now l) symbols < 4294967295) ⌝ }
-    requires { ⌜ Settled (now l) symbols p (now words) (now tallies) × Room (now l) symbols (now words) (now tallies) ⌝ }
+    requires { ⌜ Settled (now l) symbols p (now words) (now tallies)
+        × Room (now l) symbols (now words) (now tallies) ⌝ }
     ensures { λ _. ⌜ now (words .exit) ≡ put (now (words .entry)) 0 (tableWords (now (l .entry)) symbols) ⌝ }
 {
     let mut k = p;
@@ -44,8 +45,10 @@ fn expand(l: &[u32], symbols: bool, p: usize, words: &mut [u32], tallies: &[u32]
 
 pub fn settle(l: &[u32], symbols: bool, p: usize, words: &mut [u32], tallies: &mut [u32])
     requires { ⌜ (p < 4294967295) × (keyCount (now l) symbols < 4294967295) ⌝ }
-    requires { ⌜ Paired (now l) symbols p (now words) (now tallies) × Room (now l) symbols (now words) (now tallies) ⌝ }
-    ensures { λ _. ⌜ Made (now (l .entry)) symbols p (now (words .entry)) (now (words .exit)) (now (tallies .entry)) (now (tallies .exit)) ⌝ }
+    requires { ⌜ Paired (now l) symbols p (now words) (now tallies)
+        × Room (now l) symbols (now words) (now tallies) ⌝ }
+    ensures { λ _. ⌜ Made (now (l .entry)) symbols p
+        (now (words .entry)) (now (words .exit)) (now (tallies .entry)) (now (tallies .exit)) ⌝ }
 {
     put_in_order(symbols, p, l, words, tallies);
     expand(l, symbols, p, words, tallies);

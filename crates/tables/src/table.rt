@@ -1,4 +1,5 @@
 // The table of one kind of keys, stored into runs that have room for it.
+use crate::classes::by_classes;
 use crate::gather::gather;
 use crate::keys::get_at;
 use crate::keys::key_count;
@@ -10,11 +11,10 @@ use crate::order::arrange;
 use crate::scan::scan;
 use crate::settle::settle;
 ghost use mathlib.Core.Path.{_≡_};
-ghost use mathlib.Core.Bool.{Bool, true, false};
-ghost use Prim.Native.Nat.{_+_, _≤_, _<_};
-ghost use lib.ListN.{length, getD, set};
+ghost use Prim.Native.Nat.{_≤_, _<_};
+ghost use lib.ListN.{length, set};
 ghost use lib.Seq.{sets};
-ghost use Rattle.format.specs.MakeTables.{keyCount, keyWords, keysOf, timesOf};
+ghost use Rattle.format.specs.MakeTables.{keyCount, keyWords, timesOf};
 ghost use Rattle.tables.specs.Keys.{placeIn};
 ghost use Rattle.tables.specs.Probe.{Filled};
 ghost use Rattle.tables.specs.Arrange.{Counted};
@@ -59,7 +59,8 @@ fn emit(
     requires { ⌜ (p < 4294967295) × (keyCount (now l) symbols < 4294967295) ⌝ }
     requires { ⌜ Ready (now l) symbols p (now firsts) (now counts) (now order) ⌝ }
     requires { ⌜ Room (now l) symbols (now words) (now tallies) ⌝ }
-    ensures { λ _. ⌜ Made (now (l .entry)) symbols p (now (words .entry)) (now (words .exit)) (now (tallies .entry)) (now (tallies .exit)) ⌝ }
+    ensures { λ _. ⌜ Made (now (l .entry)) symbols p
+        (now (words .entry)) (now (words .exit)) (now (tallies .entry)) (now (tallies .exit)) ⌝ }
 {
     let mut k: usize = 0;
     while k < p {
@@ -82,9 +83,11 @@ fn finish(
 )
     requires { ⌜ (p < 4294967295) × (keyCount (now l) symbols < 4294967295) ⌝ }
     requires { ⌜ (p ≤ length (now table)) × (p ≤ length (now counts)) × Counted (now counts) 0 (now starts) ⌝ }
-    requires { ⌜ Filled (now l) symbols 1 0 (length (now table)) (keyCount (now l) symbols) p (now table) (now firsts) (now counts) ⌝ }
+    requires { ⌜ Filled (now l) symbols 1 0 (length (now table))
+        (keyCount (now l) symbols) p (now table) (now firsts) (now counts) ⌝ }
     requires { ⌜ Room (now l) symbols (now words) (now tallies) ⌝ }
-    ensures { λ _. ⌜ Made (now (l .entry)) symbols p (now (words .entry)) (now (words .exit)) (now (tallies .entry)) (now (tallies .exit)) ⌝ }
+    ensures { λ _. ⌜ Made (now (l .entry)) symbols p
+        (now (words .entry)) (now (words .exit)) (now (tallies .entry)) (now (tallies .exit)) ⌝ }
 {
     arrange(counts, p, limit_of(symbols), starts, table);
     emit(l, symbols, p, firsts, counts, table, words, tallies);
@@ -103,11 +106,13 @@ fn through(
     starts: &mut [u32],
 ) -> usize
     requires { ⌜ (n ≡ keyCount (now l) symbols) × (n < 4294967295) ⌝ }
-    requires { ⌜ (0 < length (now table)) × (length (now table) ≤ 1048576) × (length (now firsts) ≤ length (now table)) ⌝ }
+    requires { ⌜ (0 < length (now table)) × (length (now table) ≤ 1048576)
+        × (length (now firsts) ≤ length (now table)) ⌝ }
     requires { ⌜ (length (now counts) ≡ length (now firsts)) × Counted (now counts) 0 (now starts) ⌝ }
     requires { ⌜ Filled (now l) symbols 1 0 (length (now table)) 0 0 (now table) (now firsts) (now counts) ⌝ }
     requires { ⌜ Room (now l) symbols (now words) (now tallies) ⌝ }
-    ensures { λ r. ⌜ MadeIf (now (l .entry)) symbols (length (now (firsts .entry))) r (now (words .entry)) (now (words .exit)) (now (tallies .entry)) (now (tallies .exit)) ⌝ }
+    ensures { λ r. ⌜ MadeIf (now (l .entry)) symbols (length (now (firsts .entry))) r
+        (now (words .entry)) (now (words .exit)) (now (tallies .entry)) (now (tallies .exit)) ⌝ }
 {
     let room = firsts.len();
     let p = gather(l, symbols, 1, 0, n, table, firsts, counts);
@@ -122,7 +127,8 @@ fn through(
 fn small(l: &[u32], symbols: bool, n: usize, words: &mut [u32], tallies: &mut [u32]) -> usize
     requires { ⌜ (n ≡ keyCount (now l) symbols) × (n < 4294967295) ⌝ }
     requires { ⌜ Room (now l) symbols (now words) (now tallies) ⌝ }
-    ensures { λ r. ⌜ MadeIf (now (l .entry)) symbols 1024 r (now (words .entry)) (now (words .exit)) (now (tallies .entry)) (now (tallies .exit)) ⌝ }
+    ensures { λ r. ⌜ MadeIf (now (l .entry)) symbols 1024 r
+        (now (words .entry)) (now (words .exit)) (now (tallies .entry)) (now (tallies .exit)) ⌝ }
 {
     let mut table = [0u32; 2048];
     let mut firsts = [0u32; 1024];
@@ -145,7 +151,8 @@ fn small(l: &[u32], symbols: bool, n: usize, words: &mut [u32], tallies: &mut [u
 fn middle(l: &[u32], symbols: bool, n: usize, words: &mut [u32], tallies: &mut [u32]) -> usize
     requires { ⌜ (n ≡ keyCount (now l) symbols) × (n < 4294967295) ⌝ }
     requires { ⌜ Room (now l) symbols (now words) (now tallies) ⌝ }
-    ensures { λ r. ⌜ MadeIf (now (l .entry)) symbols 32768 r (now (words .entry)) (now (words .exit)) (now (tallies .entry)) (now (tallies .exit)) ⌝ }
+    ensures { λ r. ⌜ MadeIf (now (l .entry)) symbols 32768 r
+        (now (words .entry)) (now (words .exit)) (now (tallies .entry)) (now (tallies .exit)) ⌝ }
 {
     let mut table = [0u32; 65536];
     let mut firsts = [0u32; 32768];
@@ -164,22 +171,46 @@ fn middle(l: &[u32], symbols: bool, n: usize, words: &mut [u32], tallies: &mut [
     )
 }
 
-// The table, however many keys there are.
-fn large(l: &[u32], symbols: bool, n: usize, words: &mut [u32], tallies: &mut [u32]) -> usize
+// The table, for any keys: slow.
+fn slow(l: &[u32], symbols: bool, n: usize, words: &mut [u32], tallies: &mut [u32]) -> usize
     requires { ⌜ (n ≡ keyCount (now l) symbols) × (n < 4294967295) ⌝ }
     requires { ⌜ Room (now l) symbols (now words) (now tallies) ⌝ }
-    ensures { λ r. ⌜ Made (now (l .entry)) symbols r (now (words .entry)) (now (words .exit)) (now (tallies .entry)) (now (tallies .exit)) ⌝ }
+    ensures { λ r. ⌜ Made (now (l .entry)) symbols r
+        (now (words .entry)) (now (words .exit)) (now (tallies .entry)) (now (tallies .exit)) ⌝ }
 {
     let p = scan(l, symbols, n, words, tallies);
     settle(l, symbols, p, words, tallies);
     p
 }
 
-// Small arrays first, then larger ones. The call of itself keeps each class's arrays in a frame of their own.
-fn tries(l: &[u32], symbols: bool, n: usize, level: usize, words: &mut [u32], tallies: &mut [u32]) -> usize
+// The table, however many keys there are.
+fn large(l: &[u32], symbols: bool, n: usize, words: &mut [u32], tallies: &mut [u32]) -> usize
     requires { ⌜ (n ≡ keyCount (now l) symbols) × (n < 4294967295) ⌝ }
     requires { ⌜ Room (now l) symbols (now words) (now tallies) ⌝ }
-    ensures { λ r. ⌜ Made (now (l .entry)) symbols r (now (words .entry)) (now (words .exit)) (now (tallies .entry)) (now (tallies .exit)) ⌝ }
+    ensures { λ r. ⌜ Made (now (l .entry)) symbols r
+        (now (words .entry)) (now (words .exit)) (now (tallies .entry)) (now (tallies .exit)) ⌝ }
+{
+    let p = by_classes(l, symbols, n, words, tallies);
+    if p < 4294967295 {
+        settle(l, symbols, p, words, tallies);
+        return p;
+    }
+    slow(l, symbols, n, words, tallies)
+}
+
+// Small arrays first, then larger ones. The call of itself keeps each class's arrays in a frame of their own.
+fn tries(
+    l: &[u32],
+    symbols: bool,
+    n: usize,
+    level: usize,
+    words: &mut [u32],
+    tallies: &mut [u32],
+) -> usize
+    requires { ⌜ (n ≡ keyCount (now l) symbols) × (n < 4294967295) ⌝ }
+    requires { ⌜ Room (now l) symbols (now words) (now tallies) ⌝ }
+    ensures { λ r. ⌜ Made (now (l .entry)) symbols r
+        (now (words .entry)) (now (words .exit)) (now (tallies .entry)) (now (tallies .exit)) ⌝ }
 {
     if level == 0 {
         let p = small(l, symbols, n, words, tallies);
@@ -203,7 +234,8 @@ pub fn make_table(l: &[u32], symbols: bool, words: &mut [u32], tallies: &mut [u3
     requires { ⌜ keyCount (now l) symbols < 4294967295 ⌝ }
     requires { ⌜ Room (now l) symbols (now words) (now tallies) ⌝ }
     ensures { λ r. ⌜ r < 4294967295 ⌝ }
-    ensures { λ r. ⌜ Made (now (l .entry)) symbols r (now (words .entry)) (now (words .exit)) (now (tallies .entry)) (now (tallies .exit)) ⌝ }
+    ensures { λ r. ⌜ Made (now (l .entry)) symbols r
+        (now (words .entry)) (now (words .exit)) (now (tallies .entry)) (now (tallies .exit)) ⌝ }
 {
     let n = key_count(l, symbols);
     tries(l, symbols, n, 0, words, tallies)

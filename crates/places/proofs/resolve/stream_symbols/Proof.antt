@@ -1,5 +1,6 @@
 use borrow.Author.Needs.{needs}
-use Rattle.places.proofs.ResolveReturns.{stream-cases, symbols-inside, names-inside}
+use Rattle.places.proofs.ResolveReturns.{stream-cases, symbols-inside}
+use Rattle.places.proofs.ClosesReturns.{names-inside}
 use Rattle.places.proofs.resolve.stream_symbols.Statement.{statement}
 use Rattle.places.proofs.resolve.stream_symbols.Tie as tie
 use Rattle.places.proofs.resolve.stream_symbols.Reads as reads

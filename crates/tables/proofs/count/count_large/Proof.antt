@@ -1,58 +1,28 @@
-use Rattle.tables.proofs.CountReturns.{newsLength}
-use mathlib.Core.Path.{_≡_}
-use Prim.Native.Nat.{ℕ, _+_, _-_, _≤_, _<_}
 use borrow.Author.Needs.{needs}
 use Rattle.tables.proofs.CountReturns.{count-cases}
 use Rattle.tables.proofs.count.count_large.Statement.{statement}
 use Rattle.tables.proofs.count.count_large.Tie as tie
 use Rattle.tables.proofs.count.count_large.Reads as reads
 use Rattle.tables.proofs.count.count_large.Lts as lts
-use Rattle.tables.proofs.count.one_if_fresh.Reads as one-if-fresh-reads
+use Rattle.tables.proofs.classes.count_by_classes.Reads as count-by-classes-reads
+use Rattle.tables.proofs.count.count_slowly.Reads as count-slowly-reads
 
-abbrev Inv-loop : tie.InvT-loop
-Inv-loop l symbols n v₀ p₀ v p = (v ≤ n) × (p ≤ v) × (p ≡ newsLength l symbols v)
+-- src/count.rt:98:9
+count-by-classes-requires : tie.Need-count-by-classes-requires
+count-by-classes-requires c κs = search (needs, count-cases)
 
-abbrev μ-loop : tie.MeasureT-loop
-μ-loop l symbols n v₀ p₀ v p = n - v
-
--- src/count.rt:86:5
-loop-holds : tie.Need-loop-holds Inv-loop μ-loop
-loop-holds c = search (needs, count-cases)
-
--- src/count.rt:87:17
-one-if-fresh-requires : tie.Need-one-if-fresh-requires Inv-loop μ-loop
-one-if-fresh-requires c κs = search (needs, count-cases)
-
--- src/count.rt:87:13
-add-p : tie.Need-add-p Inv-loop μ-loop
-add-p c = search (needs, count-cases)
-
--- src/count.rt:88:13
-add-v : tie.Need-add-v Inv-loop μ-loop
-add-v c = search (needs, count-cases)
-
--- src/count.rt:86:5
-loop-less : tie.Need-loop-less Inv-loop μ-loop
-loop-less c = search (needs, count-cases)
-
--- src/count.rt:86:5
-loop-again : tie.Need-loop-again Inv-loop μ-loop
-loop-again c = search (needs, count-cases)
-
--- src/count.rt:80:1
-returns : tie.Need-returns Inv-loop μ-loop
+-- src/count.rt:100:9
+returns : tie.Need-returns
 returns c = search (needs, count-cases)
+
+-- src/count.rt:102:5
+count-slowly-requires : tie.Need-count-slowly-requires
+count-slowly-requires c κs = search (needs, count-cases)
+
+-- src/count.rt:94:1
+returns-2 : tie.Need-returns-2
+returns-2 c = search (needs, count-cases)
 
 pub count-large-spec : {M : Type 1} → statement M
 count-large-spec =
-    tie.close
-    (tie.spec
-    Inv-loop
-    μ-loop
-    loop-holds
-    one-if-fresh-requires
-    add-p
-    add-v
-    loop-less
-    loop-again
-    returns)
+    tie.close (tie.spec count-by-classes-requires returns count-slowly-requires returns-2)

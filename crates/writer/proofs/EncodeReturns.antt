@@ -1,0 +1,282 @@
+-- The rows in turn: one law for each return of src/encode.rt.
+use Prim.Native.Nat.{ℕ, zero, suc, _+_, _-_, _/_, _%_, _≤_, _<_}
+use mathlib.Core.Bool.{Bool, true, false, not, _&&_}
+use mathlib.Core.Path.{_≡_, refl, sym, ap, _∙_}
+use mathlib.Core.List.{List, []}
+use mathlib.Core.Logic.{⊎-elim}
+use native.Mathlib.Omega.{arith}
+use native.Mathlib.Nat.{zero-add}
+use borrow.Author.Tests.{le-leb, lt-leb, leb-true, eq-eqb, ne-eqb, not-true, not-false}
+use lib.Dec.{leb, eqb}
+use lib.ListN.{length, getD, replicate, length-replicate}
+use lib.Seq.{ext-getD}
+use Rattle.format.specs.Test.{if_then_else_}
+use Rattle.format.specs.Verdict as format
+use Rattle.format.specs.Verdict.{passed, refused, refusal, _andThen_, eachFrom}
+use Rattle.format.specs.Word.{put}
+use Rattle.format.specs.Write.{workWords}
+use Rattle.format.specs.Tables.{ownTables}
+use Rattle.format.specs.WordList.{listCount, listSized, listRules}
+use Rattle.format.specs.Writer.{present, listVerdict, trees, packed}
+use Rattle.format.proofs.Each.{and₃, and-right}
+use Rattle.format.proofs.Tally.{lt-or-le}
+use Rattle.format.proofs.Put.{put-length, put-at, put-after}
+use Rattle.places.specs.Places.{Roomy}
+use Rattle.places.proofs.Use.{roomy}
+use Rattle.tree.specs.Refusal.{verdictAnswer, reportAnswer}
+use Rattle.tree.specs.declared.refusal.Refusal.{Refusal}
+use Rattle.tree.specs.declared.refusal.Verdict.{Verdict}
+use Rattle.tree.specs.declared.refusal.Verdict.the-variants as verdicts
+use Rattle.tree.specs.declared.refusal.Report.{Report}
+use Rattle.tree.specs.declared.refusal.Report.the-variants.{Wrote, Refused}
+use Rattle.writer.specs.Tail.{fiveFrom, restOf, sizeFrom}
+use Rattle.writer.specs.Run.{Lent, Ready, Sized, Beyond}
+use Rattle.writer.specs.Written.{Written, Within, Ruled, Passed, Finished}
+use Rattle.writer.proofs.TailLaw.{work-length, work-at}
+use Rattle.writer.proofs.RunLaw.{run-cases, lent-roomy, lent-ready, same-chain}
+use Rattle.writer.proofs.FiveReturns.{five-past, five-here}
+
+pub refuse-answer : (r : ℕ) → Refused (record { number = r; tree = 0 }) ≡ reportAnswer (refusal r 0)
+unfolding reportAnswer
+refuse-answer r = refl
+
+-- ---- row 1 on the tables
+
+module _ (p s : List ℕ) where
+  pub odd-parts : (length p % 3 ≡ 0 → ⊥) → false ≡ ownTables p s .sized
+  odd-parts h = let a : eqb (length p % 3) 0 ≡ false = ne-eqb _ _ h in simp a
+
+  module _ (h : length p % 3 ≡ 0) where
+    even : eqb (length p % 3) 0 ≡ true
+    even = eq-eqb _ _ h
+
+    pub few-parts : length p / 3 < 2 → false ≡ ownTables p s .sized
+    few-parts k = let a = lt-leb 2 (length p / 3) k in simp (even, a)
+
+    module _ (k : 2 ≤ length p / 3) where
+      two : leb 2 (length p / 3) ≡ true
+      two = le-leb 2 (length p / 3) k
+
+      pub many-parts : 2097152 < length p / 3 → false ≡ ownTables p s .sized
+      many-parts i = let a = lt-leb (length p / 3) 2097152 i in simp (even, two, a)
+
+      module _ (i : length p / 3 ≤ 2097152) where
+        parts-fit : leb (length p / 3) 2097152 ≡ true
+        parts-fit = le-leb (length p / 3) 2097152 i
+
+        pub many-symbols : 1048576 < length s → false ≡ ownTables p s .sized
+        many-symbols j = let a = lt-leb (length s) 1048576 j in simp (even, two, parts-fit, a)
+
+        pub tables-fit : length s ≤ 1048576 → true ≡ ownTables p s .sized
+        tables-fit j = let a = le-leb (length s) 1048576 j in simp (even, two, parts-fit, a)
+
+pub ruleset tables-cases = (odd-parts, few-parts, many-parts, many-symbols, tables-fit)
+
+-- ---- a verdict from its answer
+
+refusal-same : (a b : Refusal) → verdicts.Refused a ≡ verdicts.Refused b → a ≡ b
+refusal-same a b e = cc
+
+was-refused : (v : format.Verdict) (a : Refusal) → verdictAnswer v ≡ verdicts.Refused a → v ≡ refused (a .number) (a .tree)
+unfolding verdictAnswer
+was-refused passed a e = let z : _≡_ {A = ℕ} 0 1 = cc in absurd (omega arith)
+was-refused (refused r n) a e = ap (λ b. refused (b .number) (b .tree)) (refusal-same (record { number = r; tree = n }) a e)
+
+was-passed : (v : format.Verdict) → verdictAnswer v ≡ verdicts.Passed → v ≡ passed
+unfolding verdictAnswer
+was-passed passed e = refl
+was-passed (refused r n) e = let z : _≡_ {A = ℕ} 0 1 = cc in absurd (omega arith)
+
+-- ---- rows 1 to 5
+
+module _ (p s l : List ℕ) where
+  verdict-one : (listSized l && ownTables p s .sized) ≡ false → listVerdict p s l ≡ refused 1 0
+  unfolding listVerdict
+  verdict-one e = simp e
+
+  module _ (e : (listSized l && ownTables p s .sized) ≡ true) where
+    verdict-rules : (r n : ℕ) → listRules l ≡ refused r n → listVerdict p s l ≡ refused r n
+    unfolding listVerdict
+    verdict-rules r n q = simp (e, q)
+
+    verdict-five : listRules l ≡ passed → listVerdict p s l ≡ fiveFrom p s l 0
+    unfolding listVerdict fiveFrom
+    verdict-five q = let z : listCount l - 0 ≡ listCount l = omega arith in simp (e, q, z)
+
+  module _ (work out : List ℕ) where
+    was-written : (r n : ℕ) → listVerdict p s l ≡ refused r n → Written p s l work out (Refused (record { number = r; tree = n })) work out
+    unfolding reportAnswer
+    was-written r n e = record { answer = rw e; works = rw e; outs = rw e }
+
+    written-at : (a : Refusal) → listVerdict p s l ≡ refused (a .number) (a .tree) → Written p s l work out (Refused a) work out
+    written-at a e = was-written (a .number) (a .tree) e
+
+    written-as : (r n : ℕ) (q : Report) → q ≡ reportAnswer (refusal r n) → listVerdict p s l ≡ refused r n → Written p s l work out q work out
+    unfolding reportAnswer
+    written-as r n q f e = rw f (was-written r n e)
+
+-- ---- the public function
+
+module _ (p s l : List ℕ) (x : Bool) (e : x ≡ listSized l) where
+  pub row-one-list : not x ≡ true → (work out : List ℕ) (q : Report) → q ≡ reportAnswer (refusal 1 0) → Written p s l work out q work out
+  row-one-list h work out q f =
+      let a : listSized l ≡ false = sym e ∙ not-true x h in
+      written-as p s l work out 1 0 q f (verdict-one p s l (simp a))
+
+  module _ (h : not x ≡ false) where
+    listed : listSized l ≡ true
+    listed = sym e ∙ not-false x h
+
+    three : (eqb (length l % 13) 0 ≡ true) × (leb 1 (listCount l) ≡ true) × (leb (listCount l) 1048576 ≡ true)
+    three = and₃ (eqb (length l % 13) 0) (leb 1 (listCount l)) (leb (listCount l) 1048576) listed
+
+    pub some-listed : 1 ≤ listCount l
+    some-listed = leb-true 1 (listCount l) (three .1)
+
+    pub most-listed : listCount l ≤ 1048576
+    most-listed = leb-true (listCount l) 1048576 (three .2)
+
+    module _ (y : Bool) (f : y ≡ ownTables p s .sized) where
+      pub row-one-tables : not y ≡ true → (work out : List ℕ) (q : Report) → q ≡ reportAnswer (refusal 1 0) → Written p s l work out q work out
+      row-one-tables k work out q g =
+          let a : ownTables p s .sized ≡ false = sym f ∙ not-true y k in
+          written-as p s l work out 1 0 q g (verdict-one p s l (simp (listed, a)))
+
+      module _ (k : not y ≡ false) where
+        tabled : ownTables p s .sized ≡ true
+        tabled = sym f ∙ not-false y k
+
+        sized : (listSized l && ownTables p s .sized) ≡ true
+        sized = simp (listed, tabled)
+
+        pub within : Within p s l
+        within =
+            let t = and₃ (leb 2 (length p / 3)) (leb (length p / 3) 2097152) (leb (length s) 1048576)
+            (and-right (eqb (length p % 3) 0) (leb 2 (length p / 3) && leb (length p / 3) 2097152 && leb (length s) 1048576) tabled) in
+            record {
+              sized = sized;
+              someTrees = some-listed;
+              mostTrees = most-listed;
+              someParts = leb-true 2 (length p / 3) (t .0);
+              mostParts = leb-true (length p / 3) 2097152 (t .1);
+              mostSymbols = leb-true (length s) 1048576 (t .2);
+            }
+
+        module _ (v : Verdict) (g : v ≡ verdictAnswer (listRules l)) where
+          pub rules-refused : (a : Refusal) → v ≡ verdicts.Refused a → (work out : List ℕ) → Written p s l work out (Refused a) work out
+          rules-refused a q work out = written-at p s l work out a (verdict-rules p s l sized (a .number) (a .tree) (was-refused (listRules l) a (sym g ∙ q)))
+
+pub rules-passed : (l : List ℕ) (v : Verdict) → v ≡ verdictAnswer (listRules l) → v ≡ verdicts.Passed → listRules l ≡ passed
+rules-passed l v g q = was-passed (listRules l) (sym g ∙ q)
+
+pub ruleset list-cases = (row-one-list, some-listed, most-listed, row-one-tables, within, rules-refused, rules-passed)
+
+-- ---- row 5
+
+module _ (p s l : List ℕ) (w : Within p s l) (r : listRules l ≡ passed) (x : Bool) (e : x ≡ present p [] l 0) where
+  pub root-absent : not x ≡ true → (work out : List ℕ) (q : Report) → q ≡ reportAnswer (refusal 5 0) → Written p s l work out q work out
+  root-absent h work out q f =
+      written-as p s l work out 5 0 q f (verdict-five p s l (w .sized) r ∙ five-here p s l 0 (w .someTrees) (sym e ∙ not-true x h))
+
+  pub ruled : not x ≡ false → Ruled p s l
+  ruled h = record { within = w; rules = r; root = sym e ∙ not-false x h }
+
+pub ruleset ruled-cases = (root-absent, ruled)
+
+module _ (p s l : List ℕ) (w : Ruled p s l) where
+  below : listVerdict p s l ≡ fiveFrom p s l 1
+  below = verdict-five p s l (w .within .sized) (w .rules) ∙ five-past p s l 0 (w .within .someTrees) (w .root)
+
+  module _ (v : Verdict) (g : v ≡ verdictAnswer (fiveFrom p s l 1)) where
+    pub five-refused : (a : Refusal) → v ≡ verdicts.Refused a → (work out : List ℕ) → Written p s l work out (Refused a) work out
+    five-refused a q work out = written-at p s l work out a (below ∙ was-refused (fiveFrom p s l 1) a (sym g ∙ q))
+
+    pub five-passed : v ≡ verdicts.Passed → Passed p s l
+    five-passed q = record { within = w .within; rows = below ∙ was-passed (fiveFrom p s l 1) (sym g ∙ q) }
+
+  pub ruled-most : listCount l ≤ 1048576
+  ruled-most = w .within .mostTrees
+
+-- arrays of zeros
+module _ (p s l : List ℕ) (w : Ruled p s l) where
+  pub zeros-lent : (a b m : ℕ) → 0 < a → 0 < b → a ≤ 1048576 → b ≤ 1048576 → 1 ≤ m → Lent p s (replicate a 0) (replicate b 0) (replicate m 0) (replicate m 0) (replicate m 0)
+  zeros-lent a b m h₁ h₂ h₃ h₄ h₅ =
+      record {
+        roomy = rw (length-replicate {A = ℕ} a 0, length-replicate {A = ℕ} b 0) (roomy (length p) (length s) a b (w .within .mostParts) (w .within .mostSymbols) h₁ h₂ h₃ h₄);
+        some = rw (length-replicate {A = ℕ} m 0) h₅;
+        evenCloses = refl;
+        evenSyms = refl;
+      }
+
+pub ruleset built-cases = (run-cases, ruled-most, five-refused, five-passed)
+
+pub ruleset with-cases = (same-chain, lent-roomy, lent-ready)
+
+pub ruleset class-cases = (zeros-lent)
+
+-- ---- row 6
+
+module _ (p s l work : List ℕ) (w : Sized p s l 0 work) (t : ℕ) (e : t ≡ getD work 0 0) where
+  total : t ≡ length (packed p s l)
+  unfolding restOf
+  total = e ∙ w .at 0 (omega arith) (omega arith)
+
+  module _ (out : List ℕ) where
+    pub out-short : length out < t → (q : Report) → q ≡ reportAnswer (refusal 6 0) → Finished p s l out q out
+    out-short h q f =
+        let z = total in
+        let a : leb (length (packed p s l)) (length out) ≡ false = lt-leb (length (packed p s l)) (length out) (omega arith) in
+        record { answer = f ∙ simp a; contents = simp a }
+
+    module _ (h : t ≤ length out) where
+      pub out-fits : sizeFrom p s l 0 ≤ length out
+      unfolding restOf
+      out-fits = let z = total in omega arith
+
+      pub out-written : (out′ : List ℕ) → out′ ≡ put out 0 (packed p s l) → Finished p s l out (Wrote t) out′
+      unfolding reportAnswer
+      out-written out′ f =
+          let z = total in
+          let a : leb (length (packed p s l)) (length out) ≡ true = le-leb (length (packed p s l)) (length out) (omega arith) in
+          record { answer = rw z (simp a); contents = f ∙ simp a }
+
+pub ruleset finish-cases = (out-short, out-fits, out-written)
+
+module _ (p s l : List ℕ) (ok : Passed p s l) (work : List ℕ) where
+  pub work-short : length work ≤ listCount l → (out : List ℕ) (q : Report) → q ≡ reportAnswer (refusal 6 0) → Written p s l work out q work out
+  work-short h out q f =
+      let v = ok .rows in
+      let a : leb (listCount l + 1) (length work) ≡ false = lt-leb (listCount l + 1) (length work) (omega arith) in
+      record { answer = f ∙ simp (v, a); works = simp (v, a); outs = simp (v, a) }
+
+  module _ (h : listCount l < length work) (work′ : List ℕ) (w : Sized p s l 0 work′) (b : Beyond l work′ work) where
+    abbrev words : List ℕ
+    words = workWords (trees p s l)
+
+    fits : 0 + length words ≤ length work
+    fits = let a = work-length p s l in omega arith
+
+    filled : work′ ≡ put work 0 words
+    filled =
+        let e = put-length work 0 words fits in
+        let f = b .long in
+        ext-getD 0 work′ (put work 0 words) (omega arith) (λ i g. ⊎-elim (trees-word i) (later-word i) (lt-or-le i (listCount l + 1)))
+      where
+        trees-word : (i : ℕ) → i < listCount l + 1 → getD work′ i 0 ≡ getD (put work 0 words) i 0
+        trees-word i g =
+            let a = work-length p s l in
+            let e : getD (put work 0 words) i 0 ≡ getD words i 0 = rw (zero-add i) at (put-at work 0 words fits i (omega arith)) in
+            w .at i (omega arith) (omega arith) ∙ sym (work-at p s l i) ∙ sym e
+
+        later-word : (i : ℕ) → listCount l + 1 ≤ i → getD work′ i 0 ≡ getD (put work 0 words) i 0
+        later-word i g =
+            let a = work-length p s l in
+            b .same i (omega arith) ∙ sym (put-after work 0 words fits i (omega arith))
+
+    pub work-filled : (out : List ℕ) (q : Report) (out′ : List ℕ) → Finished p s l out q out′ → Written p s l work out q work′ out′
+    work-filled out q out′ f =
+        let v = ok .rows in
+        let a : leb (listCount l + 1) (length work) ≡ true = le-leb (listCount l + 1) (length work) (omega arith) in
+        record { answer = f .answer ∙ simp (v, a); works = filled ∙ simp (v, a); outs = f .contents ∙ simp (v, a) }
+
+pub ruleset passed-cases = (run-cases, work-short, work-filled)

@@ -1,0 +1,179 @@
+-- Row 5: one law for each return and each turn of a loop of src/five.rt.
+use Prim.Native.Nat.{ℕ, zero, suc, _+_, _*_, _-_, _/_, _≤_, _<_}
+use mathlib.Core.Bool.{Bool, true, false, not, _&&_}
+use mathlib.Core.Path.{_≡_, refl, sym, ap, _∙_}
+use mathlib.Core.List.{List, []}
+use native.Mathlib.Omega.{arith}
+use borrow.Author.Tests.{eq-eqb, ne-eqb, not-true, not-false}
+use lib.Dec.{eqb}
+use lib.ListN.{length, getD}
+use Rattle.format.specs.Test.{if_then_else_}
+use Rattle.format.specs.Verdict.{passed, refused, eachFrom}
+use Rattle.format.specs.Tree.{Raw}
+use Rattle.format.specs.Tables.{indexedBelow, rowEight}
+use Rattle.format.specs.WordList.{wordOf, rawFrom, listCount}
+use Rattle.format.specs.Writer.{find, isPart, present, rawOf}
+use Rattle.format.proofs.First.{find-at, find-from, find-to}
+use Rattle.tree.specs.Raw.{rawTree}
+use Rattle.tree.specs.Raw as tree
+use Rattle.tree.specs.Refusal.{verdictAnswer}
+use Rattle.tree.specs.declared.raw.RawTree.{RawTree}
+use Rattle.tree.specs.declared.refusal.Verdict.{Verdict}
+use Rattle.tree.specs.declared.refusal.Verdict.the-variants.{Passed}
+use Rattle.tree.proofs.WordsReturns.{words-raw}
+use Rattle.writer.specs.Run.{Kept, Run, absent, firstAbsent}
+use Rattle.writer.specs.Tail.{fiveFrom}
+use Rattle.writer.proofs.RunLaw.{run-tree, run-cases}
+
+-- ---- a part, and the root's two
+
+module _ (parts : List ℕ) (f a c i : ℕ) where
+  pub other-file : (getD parts (3 * i) 0 ≡ f → ⊥) → false ≡ isPart parts [] f a c i
+  other-file h = let x : eqb (getD parts (3 * i) 0) f ≡ false = ne-eqb _ _ h in simp x
+
+  module _ (h₁ : getD parts (3 * i) 0 ≡ f) where
+    same-file : eqb (getD parts (3 * i) 0) f ≡ true
+    same-file = eq-eqb _ _ h₁
+
+    pub other-ast : (getD parts (3 * i + 1) 0 ≡ a → ⊥) → false ≡ isPart parts [] f a c i
+    other-ast h = let x : eqb (getD parts (3 * i + 1) 0) a ≡ false = ne-eqb _ _ h in simp (same-file, x)
+
+    module _ (h₂ : getD parts (3 * i + 1) 0 ≡ a) where
+      same-ast : eqb (getD parts (3 * i + 1) 0) a ≡ true
+      same-ast = eq-eqb _ _ h₂
+
+      pub other-context : (getD parts (3 * i + 2) 0 ≡ c → ⊥) → false ≡ isPart parts [] f a c i
+      other-context h = let x : eqb (getD parts (3 * i + 2) 0) c ≡ false = ne-eqb _ _ h in simp (same-file, same-ast, x)
+
+      pub same-part : getD parts (3 * i + 2) 0 ≡ c → true ≡ isPart parts [] f a c i
+      same-part h = let x : eqb (getD parts (3 * i + 2) 0) c ≡ true = eq-eqb _ _ h in simp (same-file, same-ast, x)
+
+pub ruleset part-cases = (other-file, other-ast, other-context, same-part)
+
+module _ (l parts : List ℕ) (x : Bool) (e : x ≡ isPart parts [] (getD l 3 0) (getD l 4 0) (getD l 5 0) (length parts / 3 - 2)) where
+  pub root-not-open : not x ≡ true → false ≡ present parts [] l 0
+  root-not-open h = let a = sym e ∙ not-true x h in simp a
+
+  pub root-both : not x ≡ false → (y : Bool) → y ≡ isPart parts [] (getD l 8 0) (getD l 9 0) (getD l 10 0) (length parts / 3 - 1) → y ≡ present parts [] l 0
+  root-both h y f = let a = sym e ∙ not-false x h in f ∙ simp a
+
+pub ruleset root-cases = (root-not-open, root-both)
+
+-- ---- a tree below the root
+
+row-eight-zero : (b : Bool) → (_≡_ {A = ℕ} (if b then 0 else 8) 0 → ⊥) → b ≡ false
+row-eight-zero true h = absurd (h refl)
+row-eight-zero false h = refl
+
+row-eight-one : (b : Bool) → _≡_ {A = ℕ} (if b then 0 else 8) 0 → b ≡ true
+row-eight-one true h = refl
+row-eight-one false h = absurd (omega arith)
+
+module _ (l : List ℕ) (n P S o c y : ℕ) (t : RawTree) (e : t ≡ rawTree (rawFrom o c y (wordOf l n))) (x : ℕ) (f : x ≡ rowEight P S 1 (tree.rawOf t)) where
+  eight : x ≡ (if indexedBelow P S (rawFrom o c y (wordOf l n)) then 0 else 8)
+  eight = f ∙ ap (rowEight P S 1) (words-raw l n o c y t e)
+
+  pub not-present : (x ≡ 0 → ⊥) → false ≡ indexedBelow P S (rawFrom o c y (wordOf l n))
+  not-present h = sym (row-eight-zero (indexedBelow P S (rawFrom o c y (wordOf l n))) (λ q. h (eight ∙ q)))
+
+  pub is-present : x ≡ 0 → true ≡ indexedBelow P S (rawFrom o c y (wordOf l n))
+  is-present h = sym (row-eight-one (indexedBelow P S (rawFrom o c y (wordOf l n))) (sym eight ∙ h))
+
+pub ruleset present-cases = (not-present, is-present)
+
+-- ---- a run
+
+present-below : (p s l : List ℕ) (n : ℕ) → 1 ≤ n → present p s l n ≡ indexedBelow (length p / 3) (length s) (rawOf p s l n)
+present-below p s l n h = let z : eqb n 0 ≡ false = ne-eqb n 0 (λ q. absurd (omega arith)) in simp z
+
+module _ (p s l : List ℕ) where
+  absent-past : (n stop : ℕ) → n < stop → present p s l n ≡ true → firstAbsent p s l n stop ≡ firstAbsent p s l (n + 1) stop
+  unfolding firstAbsent find absent
+  absent-past n stop h a = let e : stop - n ≡ suc (stop - (n + 1)) = omega arith in rw e (simp a)
+
+  absent-here : (n stop : ℕ) → n < stop → present p s l n ≡ false → firstAbsent p s l n stop ≡ n
+  unfolding firstAbsent find absent
+  absent-here n stop h a = let e : stop - n ≡ suc (stop - (n + 1)) = omega arith in rw e (simp a)
+
+  absent-stop : (n stop : ℕ) → stop ≤ n → firstAbsent p s l n stop ≡ n
+  unfolding firstAbsent find
+  absent-stop n stop h = let e : stop - n ≡ 0 = omega arith in rw e
+
+  module _ (from stop n : ℕ) (e : firstAbsent p s l from stop ≡ firstAbsent p s l n stop) where
+    pub absent-ends : stop ≤ n → n ≡ firstAbsent p s l from stop
+    absent-ends h = sym (e ∙ absent-stop n stop h)
+
+    module _ (os cs ys : List ℕ) (r : Run p s l from stop os cs ys) (g : from ≤ n) (h : n < stop)
+        (y : Bool) (f : y ≡ indexedBelow (length p / 3) (length s) (rawFrom (getD os (n - from) 0) (getD cs (n - from) 0) (getD ys (n - from) 0) (wordOf l n))) where
+      present-is : present p s l n ≡ y
+      present-is =
+          let a = r .below in
+          present-below p s l n (omega arith) ∙ ap (indexedBelow (length p / 3) (length s)) (sym (run-tree p s l from stop n os cs ys r g h)) ∙ sym f
+
+      pub absent-found : not y ≡ true → n ≡ firstAbsent p s l from stop
+      absent-found k = sym (e ∙ absent-here n stop h (present-is ∙ not-true y k))
+
+      pub absent-goes : not y ≡ false → firstAbsent p s l from stop ≡ firstAbsent p s l (n + 1) stop
+      absent-goes k = e ∙ absent-past n stop h (present-is ∙ not-false y k)
+
+pub run-low : (p s l : List ℕ) (from stop : ℕ) (os cs ys : List ℕ) → Run p s l from stop os cs ys → from ≤ stop
+run-low p s l from stop os cs ys r = r .some
+
+pub ruleset absent-cases = (run-low, absent-ends, absent-found, absent-goes)
+
+-- ---- the whole list
+
+module _ (p s l : List ℕ) where
+  pub five-past : (n : ℕ) → n < listCount l → present p s l n ≡ true → fiveFrom p s l n ≡ fiveFrom p s l (n + 1)
+  unfolding fiveFrom eachFrom
+  five-past n h a = let e : listCount l - n ≡ suc (listCount l - (n + 1)) = omega arith in rw e (simp a)
+
+  pub five-here : (n : ℕ) → n < listCount l → present p s l n ≡ false → fiveFrom p s l n ≡ refused 5 n
+  unfolding fiveFrom eachFrom
+  five-here n h a = let e : listCount l - n ≡ suc (listCount l - (n + 1)) = omega arith in rw e (simp a)
+
+  five-skip : (j n : ℕ) → n + j ≤ listCount l → fiveFrom p s l n ≡ fiveFrom p s l (find (absent p s l) j n)
+  unfolding find absent
+  five-skip zero n h = refl
+  five-skip (suc j) n h = go (present p s l n) refl (five-skip j (n + 1) (omega arith))
+    where
+      go : (b : Bool) → present p s l n ≡ b → fiveFrom p s l (n + 1) ≡ fiveFrom p s l (find (absent p s l) j (n + 1)) → fiveFrom p s l n ≡ fiveFrom p s l (find (absent p s l) (suc j) n)
+      go true a rec = simp a (five-past n (omega arith) a ∙ rec)
+      go false a rec = simp a
+
+  five-run : (n stop : ℕ) → n < stop → stop ≤ listCount l → fiveFrom p s l n ≡ fiveFrom p s l (firstAbsent p s l n stop)
+  unfolding firstAbsent
+  five-run n stop h k = five-skip (stop - n) n (omega arith)
+
+  run-most : (n stop : ℕ) → n < stop → firstAbsent p s l n stop ≤ stop
+  unfolding firstAbsent
+  run-most n stop h = let a = find-to (absent p s l) (stop - n) n in omega arith
+
+  run-absent : (n stop : ℕ) → n < stop → firstAbsent p s l n stop < stop → present p s l (firstAbsent p s l n stop) ≡ false
+  unfolding firstAbsent absent
+  run-absent n stop h k = not-true (present p s l (find (absent p s l) (stop - n) n)) (find-at (absent p s l) (stop - n) n (omega arith))
+
+  module _ (n : ℕ) (e : fiveFrom p s l 1 ≡ fiveFrom p s l n) where
+    pub five-ends : listCount l ≤ n → Passed ≡ verdictAnswer (fiveFrom p s l 1)
+    unfolding fiveFrom eachFrom verdictAnswer
+    five-ends h =
+        let z : listCount l - n ≡ 0 = omega arith in
+        let a : fiveFrom p s l n ≡ passed = rw z in
+        sym (ap verdictAnswer (e ∙ a))
+
+    module _ (stop : ℕ) (h : n < stop) (k : stop ≤ listCount l) (m : ℕ) (f : m ≡ firstAbsent p s l n stop) where
+      pub five-found : m < stop → (v : Verdict) → v ≡ verdictAnswer (refused 5 m) → v ≡ verdictAnswer (fiveFrom p s l 1)
+      five-found i v q =
+          let a : present p s l m ≡ false = rw f (run-absent n stop h (rw f at i)) in
+          q ∙ ap verdictAnswer (sym (e ∙ five-run n stop h k ∙ ap (fiveFrom p s l) (sym f) ∙ five-here m (omega arith) a))
+
+      pub five-goes : stop ≤ m → fiveFrom p s l 1 ≡ fiveFrom p s l stop
+      five-goes i =
+          let a = run-most n stop h in
+          let z : firstAbsent p s l n stop ≡ stop = omega arith in
+          e ∙ five-run n stop h k ∙ ap (fiveFrom p s l) z
+
+pub found-fits : (m stop k : ℕ) → m < stop → stop ≤ k → k ≤ 1048576 → m < 4294967296
+found-fits m stop k a b c = omega arith
+
+pub ruleset five-cases = (run-cases, found-fits, five-ends, five-found, five-goes)

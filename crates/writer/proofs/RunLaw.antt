@@ -1,0 +1,106 @@
+-- Runs of trees: what a chunk of indices says of its trees, and slots and arrays that keep their lengths.
+use Prim.Native.Nat.{ℕ, _+_, _-_, _≤_, _<_}
+use mathlib.Core.Path.{_≡_, refl, sym, ap, _∙_, subst}
+use mathlib.Core.List.{List}
+use native.Mathlib.Omega.{arith}
+use lib.ListN.{length, getD}
+use Rattle.format.specs.WordList.{wordOf, rawFrom, listCount}
+use Rattle.format.specs.Writer.{rawOf}
+use Rattle.places.specs.Places.{Roomy, Indexed, Resolved}
+use Rattle.writer.specs.Run.{Lent, Ready, Kept, Run}
+
+-- tree n of a run
+pub run-tree : (p s l : List ℕ) (from stop n : ℕ) (os cs ys : List ℕ) → Run p s l from stop os cs ys → from ≤ n → n < stop
+    → rawFrom (getD os (n - from) 0) (getD cs (n - from) 0) (getD ys (n - from) 0) (wordOf l n) ≡ rawOf p s l n
+run-tree p s l from stop n os cs ys r g h =
+    let a = r .last in
+    let b = r .fits in
+    let e : from + (n - from) ≡ n = omega arith in
+    subst (λ m. rawFrom (getD os (n - from) 0) (getD cs (n - from) 0) (getD ys (n - from) 0) (wordOf l m) ≡ rawOf p s l m) e (r .resolved .at (n - from) (omega arith) (omega arith))
+
+roomy-kept : (a b c d c′ d′ : ℕ) → Roomy a b c d → c′ ≡ c → d′ ≡ d → Roomy a b c′ d′
+roomy-kept a b c d c′ d′ r e f = rw (e, f) r
+
+module _ (p s ps ss os cs ys : List ℕ) (r : Ready p s ps ss os cs ys) where
+  pub ready-roomy : Roomy (length p) (length s) (length ps) (length ss)
+  ready-roomy = r .lent .roomy
+
+  pub ready-indexed : Indexed p s ps ss
+  ready-indexed = r .indexed
+
+  module _ (ps′ ss′ os′ cs′ ys′ : List ℕ) (eo : length os′ ≡ length os) (ec : length cs′ ≡ length cs) (ey : length ys′ ≡ length ys) where
+    pub ready-next : Indexed p s ps′ ss′ → length ps′ ≡ length ps → length ss′ ≡ length ss → Ready p s ps′ ss′ os′ cs′ ys′
+    ready-next i ep es =
+        let a = r .lent .some in
+        let b = r .lent .evenCloses in
+        let c = r .lent .evenSyms in
+        record {
+          lent = record {
+            roomy = roomy-kept (length p) (length s) (length ps) (length ss) (length ps′) (length ss′) (r .lent .roomy) ep es;
+            some = omega arith;
+            evenCloses = omega arith;
+            evenSyms = omega arith;
+          };
+          indexed = i;
+        }
+
+    -- the run that was resolved
+    pub run-next : (l : List ℕ) (from stop : ℕ) → Resolved p s l from (length os) os′ cs′ ys′ → 1 ≤ from → from < stop → stop ≤ listCount l → stop ≤ from + length os
+        → Run p s l from stop os′ cs′ ys′
+    run-next l from stop i h₁ h₂ h₃ h₄ =
+        let b = r .lent .evenCloses in
+        let c = r .lent .evenSyms in
+        record {
+          resolved = rw eo i;
+          below = h₁;
+          some = omega arith;
+          last = h₃;
+          fits = omega arith;
+          evenCloses = omega arith;
+          evenSyms = omega arith;
+        }
+
+-- the slots have been built
+module _ (p s ps ss os cs ys : List ℕ) (r : Lent p s ps ss os cs ys) where
+  pub lent-roomy : Roomy (length p) (length s) (length ps) (length ss)
+  lent-roomy = r .roomy
+
+  pub lent-ready : (ps′ ss′ : List ℕ) → Indexed p s ps′ ss′ → length ps′ ≡ length ps → length ss′ ≡ length ss → Ready p s ps′ ss′ os cs ys
+  lent-ready ps′ ss′ i ep es =
+      record {
+        lent = record {
+          roomy = roomy-kept (length p) (length s) (length ps) (length ss) (length ps′) (length ss′) (r .roomy) ep es;
+          some = r .some;
+          evenCloses = r .evenCloses;
+          evenSyms = r .evenSyms;
+        };
+        indexed = i;
+      }
+
+module _ (ps ss os cs ys ps₀ ss₀ os₀ cs₀ ys₀ : List ℕ) where
+  pub kept-next : Kept ps ss os cs ys ps₀ ss₀ os₀ cs₀ ys₀ → (ps′ ss′ os′ cs′ ys′ : List ℕ)
+      → length ps′ ≡ length ps → length ss′ ≡ length ss → length os′ ≡ length os → length cs′ ≡ length cs → length ys′ ≡ length ys
+      → Kept ps′ ss′ os′ cs′ ys′ ps₀ ss₀ os₀ cs₀ ys₀
+  kept-next k ps′ ss′ os′ cs′ ys′ a b c d e =
+      record {
+        ofPartSlots = a ∙ k .ofPartSlots;
+        ofSymbolSlots = b ∙ k .ofSymbolSlots;
+        ofOpens = c ∙ k .ofOpens;
+        ofCloses = d ∙ k .ofCloses;
+        ofSyms = e ∙ k .ofSyms;
+      }
+
+pub kept-none : (ps ss os cs ys : List ℕ) → Kept ps ss os cs ys ps ss os cs ys
+kept-none ps ss os cs ys = record { ofPartSlots = refl; ofSymbolSlots = refl; ofOpens = refl; ofCloses = refl; ofSyms = refl }
+
+pub same-chain : (a b c : List ℕ) → length a ≡ length b → length b ≡ length c → length a ≡ length c
+same-chain a b c e f = e ∙ f
+
+-- the next run
+pub run-after : (n stop : ℕ) → 1 ≤ n → n < stop → 1 ≤ stop
+run-after n stop a b = omega arith
+
+pub run-before : (from n k : ℕ) → from < n → n ≤ k → from ≤ k
+run-before from n k a b = omega arith
+
+pub ruleset run-cases = (run-after, run-before, kept-none, same-chain, ready-roomy, ready-indexed, ready-next, run-next, kept-next)

@@ -1,0 +1,39 @@
+use borrow.Author.Needs.{needs}
+use Rattle.writer.proofs.BytesReturns.{put-root-cases}
+use Rattle.writer.proofs.bytes.put_root.Statement.{statement}
+use Rattle.writer.proofs.bytes.put_root.Tie as tie
+use Rattle.writer.proofs.bytes.put_root.Reads as reads
+use Rattle.writer.proofs.bytes.put_root.Lts as lts
+use Rattle.encode.proofs.encode.encode_top_subtree.Reads as encode-top-subtree-reads
+use Rattle.writer.proofs.bytes.root_of.Reads as root-of-reads
+use Rattle.writer.proofs.sizes.children_of.Reads as children-of-reads
+
+-- src/bytes.rt:164:9
+root-of-requires : tie.Need-root-of-requires
+root-of-requires c κs = search (needs, put-root-cases)
+
+-- src/bytes.rt:165:9
+children-of-requires : tie.Need-children-of-requires
+children-of-requires c κs = search (needs, put-root-cases)
+
+-- src/bytes.rt:166:5
+encode-top-subtree-requires : tie.Need-encode-top-subtree-requires
+encode-top-subtree-requires c κs = search (needs, put-root-cases)
+
+-- src/bytes.rt:158:1
+same-length : tie.Need-same-length
+same-length c = search (needs, put-root-cases)
+
+-- src/bytes.rt:158:1
+returns : tie.Need-returns
+returns c = search (needs, put-root-cases)
+
+pub put-root-spec : {M : Type 1} → statement M
+put-root-spec =
+    tie.close
+    (tie.spec
+    root-of-requires
+    children-of-requires
+    encode-top-subtree-requires
+    same-length
+    returns)

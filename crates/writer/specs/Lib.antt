@@ -1,0 +1,3 @@
+pub mod Tail
+pub mod Run
+pub mod Written

@@ -1,0 +1,331 @@
+// The writer: rows 1 to 6 in turn, the work words, the bytes.
+use crate::bytes::put_list;
+use crate::five::root_present;
+use crate::five::row_five;
+use crate::sizes::fill_work;
+use list::rows::list_sized;
+use list::sized::list_rules;
+use places::resolve::build;
+use tree::raw::place;
+use tree::refusal::Refusal;
+use tree::refusal::Report;
+use tree::refusal::Verdict;
+ghost use mathlib.Core.Path.{_≡_};
+ghost use Rattle.format.specs.Tables.{ownTables};
+ghost use Rattle.format.specs.Verdict.{passed, refusal};
+ghost use Rattle.format.specs.WordList.{listRules};
+ghost use Rattle.tree.specs.Refusal.{reportAnswer};
+ghost use Rattle.writer.specs.Run.{Lent, Ready, Sized};
+ghost use Rattle.writer.specs.Written.{Written, Within, Ruled, Passed, Finished};
+
+// Row `number`, which names no tree but the root.
+fn refuse(number: u32) -> Report
+    ensures { λ r. ⌜ r ≡ reportAnswer (refusal number 0) ⌝ }
+{
+    Report::Refused(Refusal {
+        number: number,
+        tree: 0,
+    })
+}
+
+// Row 6 for the output, then its bytes.
+fn finish(
+    l: &[u32],
+    parts: &[u32],
+    symbols: &[u32],
+    work: &[u32],
+    out: &mut [u8],
+    part_slots: &mut [u32],
+    symbol_slots: &mut [u32],
+    opens: &mut [u32],
+    closes: &mut [u32],
+    syms: &mut [u32],
+) -> Report
+    requires { ⌜ Passed (now parts) (now symbols) (now l) ⌝ }
+    requires { ⌜ Ready (now parts) (now symbols) (now «part_slots») (now «symbol_slots») (now opens) (now closes) (now syms) ⌝ }
+    requires { ⌜ Sized (now parts) (now symbols) (now l) 0 (now work) ⌝ }
+    ensures { λ r. ⌜ Finished (now (parts .entry)) (now (symbols .entry)) (now (l .entry)) (now (out .entry)) r (now (out .exit)) ⌝ }
+{
+    let total = place(work[0]);
+    if out.len() < total {
+        return refuse(6);
+    }
+    put_list(
+        l,
+        parts,
+        symbols,
+        work,
+        out,
+        part_slots,
+        symbol_slots,
+        opens,
+        closes,
+        syms,
+    );
+    Report::Wrote(total)
+}
+
+// Row 6 for the work words, then those, then the output.
+fn write_passed(
+    l: &[u32],
+    parts: &[u32],
+    symbols: &[u32],
+    work: &mut [u32],
+    out: &mut [u8],
+    part_slots: &mut [u32],
+    symbol_slots: &mut [u32],
+    opens: &mut [u32],
+    closes: &mut [u32],
+    syms: &mut [u32],
+) -> Report
+    requires { ⌜ Passed (now parts) (now symbols) (now l) ⌝ }
+    requires { ⌜ Ready (now parts) (now symbols) (now «part_slots») (now «symbol_slots») (now opens) (now closes) (now syms) ⌝ }
+    ensures { λ r. ⌜ Written (now (parts .entry)) (now (symbols .entry)) (now (l .entry)) (now (work .entry)) (now (out .entry)) r (now (work .exit)) (now (out .exit)) ⌝ }
+{
+    if work.len() <= l.len() / 13 {
+        return refuse(6);
+    }
+    fill_work(
+        l,
+        parts,
+        symbols,
+        work,
+        part_slots,
+        symbol_slots,
+        opens,
+        closes,
+        syms,
+    );
+    finish(
+        l,
+        parts,
+        symbols,
+        work,
+        out,
+        part_slots,
+        symbol_slots,
+        opens,
+        closes,
+        syms,
+    )
+}
+
+// Row 5 below the root, then row 6.
+fn write_built(
+    l: &[u32],
+    parts: &[u32],
+    symbols: &[u32],
+    work: &mut [u32],
+    out: &mut [u8],
+    part_slots: &mut [u32],
+    symbol_slots: &mut [u32],
+    opens: &mut [u32],
+    closes: &mut [u32],
+    syms: &mut [u32],
+) -> Report
+    requires { ⌜ Ruled (now parts) (now symbols) (now l) ⌝ }
+    requires { ⌜ Ready (now parts) (now symbols) (now «part_slots») (now «symbol_slots») (now opens) (now closes) (now syms) ⌝ }
+    ensures { λ r. ⌜ Written (now (parts .entry)) (now (symbols .entry)) (now (l .entry)) (now (work .entry)) (now (out .entry)) r (now (work .exit)) (now (out .exit)) ⌝ }
+{
+    match row_five(
+        l,
+        parts,
+        symbols,
+        part_slots,
+        symbol_slots,
+        opens,
+        closes,
+        syms,
+    ) {
+        Verdict::Passed => write_passed(
+            l,
+            parts,
+            symbols,
+            work,
+            out,
+            part_slots,
+            symbol_slots,
+            opens,
+            closes,
+            syms,
+        ),
+        Verdict::Refused(at) => Report::Refused(at),
+    }
+}
+
+// Rows 5 and 6 over slots that it builds.
+fn write_with(
+    l: &[u32],
+    parts: &[u32],
+    symbols: &[u32],
+    work: &mut [u32],
+    out: &mut [u8],
+    part_slots: &mut [u32],
+    symbol_slots: &mut [u32],
+    opens: &mut [u32],
+    closes: &mut [u32],
+    syms: &mut [u32],
+) -> Report
+    requires { ⌜ Ruled (now parts) (now symbols) (now l) ⌝ }
+    requires { ⌜ Lent (now parts) (now symbols) (now «part_slots») (now «symbol_slots») (now opens) (now closes) (now syms) ⌝ }
+    ensures { λ r. ⌜ Written (now (parts .entry)) (now (symbols .entry)) (now (l .entry)) (now (work .entry)) (now (out .entry)) r (now (work .exit)) (now (out .exit)) ⌝ }
+{
+    build(parts, symbols, part_slots, symbol_slots);
+    write_built(
+        l,
+        parts,
+        symbols,
+        work,
+        out,
+        part_slots,
+        symbol_slots,
+        opens,
+        closes,
+        syms,
+    )
+}
+
+// The slots hold tables of at most 1,024 parts and 1,024 symbols at half load.
+fn write_small(
+    l: &[u32],
+    parts: &[u32],
+    symbols: &[u32],
+    work: &mut [u32],
+    out: &mut [u8],
+) -> Report
+    requires { ⌜ Ruled (now parts) (now symbols) (now l) ⌝ }
+    ensures { λ r. ⌜ Written (now (parts .entry)) (now (symbols .entry)) (now (l .entry)) (now (work .entry)) (now (out .entry)) r (now (work .exit)) (now (out .exit)) ⌝ }
+{
+    let mut part_slots = [0u32; 2048];
+    let mut symbol_slots = [0u32; 2048];
+    let mut opens = [0u32; 256];
+    let mut closes = [0u32; 256];
+    let mut syms = [0u32; 256];
+    write_with(
+        l,
+        parts,
+        symbols,
+        work,
+        out,
+        &mut part_slots,
+        &mut symbol_slots,
+        &mut opens,
+        &mut closes,
+        &mut syms,
+    )
+}
+
+// Tables of any size, within 1 MB of stack.
+fn write_large(
+    l: &[u32],
+    parts: &[u32],
+    symbols: &[u32],
+    work: &mut [u32],
+    out: &mut [u8],
+) -> Report
+    requires { ⌜ Ruled (now parts) (now symbols) (now l) ⌝ }
+    ensures { λ r. ⌜ Written (now (parts .entry)) (now (symbols .entry)) (now (l .entry)) (now (work .entry)) (now (out .entry)) r (now (work .exit)) (now (out .exit)) ⌝ }
+{
+    let mut part_slots = [0u32; 65536];
+    let mut symbol_slots = [0u32; 131072];
+    let mut opens = [0u32; 8192];
+    let mut closes = [0u32; 8192];
+    let mut syms = [0u32; 8192];
+    write_with(
+        l,
+        parts,
+        symbols,
+        work,
+        out,
+        &mut part_slots,
+        &mut symbol_slots,
+        &mut opens,
+        &mut closes,
+        &mut syms,
+    )
+}
+
+// Small tables at level 0, else again at level 1. A callee with large arrays is not inlined into a function that calls
+// itself, so that a list with small tables does not pay for the large frame.
+fn write_at(
+    l: &[u32],
+    parts: &[u32],
+    symbols: &[u32],
+    work: &mut [u32],
+    out: &mut [u8],
+    level: usize,
+) -> Report
+    requires { ⌜ Ruled (now parts) (now symbols) (now l) ⌝ }
+    ensures { λ r. ⌜ Written (now (parts .entry)) (now (symbols .entry)) (now (l .entry)) (now (work .entry)) (now (out .entry)) r (now (work .exit)) (now (out .exit)) ⌝ }
+{
+    if level != 0 {
+        return write_large(l, parts, symbols, work, out);
+    }
+    if 3072 < parts.len() {
+        return write_at(l, parts, symbols, work, out, 1);
+    }
+    if 1024 < symbols.len() {
+        return write_at(l, parts, symbols, work, out, 1);
+    }
+    write_small(l, parts, symbols, work, out)
+}
+
+// Whether row 1 is silent on the tables.
+fn tables_sized(parts: &[u32], symbols: &[u32]) -> bool
+    ensures { λ r. ⌜ r ≡ ownTables (now (parts .entry)) (now (symbols .entry)) .sized ⌝ }
+{
+    if parts.len() % 3 != 0 {
+        return false;
+    }
+    let count = parts.len() / 3;
+    if count < 2 {
+        return false;
+    }
+    if 2097152 < count {
+        return false;
+    }
+    if 1048576 < symbols.len() {
+        return false;
+    }
+    true
+}
+
+// Row 5 for the root, whose parts are not looked for.
+fn write_ruled(
+    l: &[u32],
+    parts: &[u32],
+    symbols: &[u32],
+    work: &mut [u32],
+    out: &mut [u8],
+) -> Report
+    requires { ⌜ Within (now parts) (now symbols) (now l) ⌝ }
+    requires { ⌜ listRules (now l) ≡ passed ⌝ }
+    ensures { λ r. ⌜ Written (now (parts .entry)) (now (symbols .entry)) (now (l .entry)) (now (work .entry)) (now (out .entry)) r (now (work .exit)) (now (out .exit)) ⌝ }
+{
+    if !root_present(l, parts) {
+        return refuse(5);
+    }
+    write_at(l, parts, symbols, work, out, 0)
+}
+
+// Writes the buffer of a list over given tables. Answers how many bytes, or the first of rows 1 to 6 that the list breaks.
+pub fn encode_list(
+    l: &[u32],
+    parts: &[u32],
+    symbols: &[u32],
+    work: &mut [u32],
+    out: &mut [u8],
+) -> Report
+    ensures { λ r. ⌜ Written (now (parts .entry)) (now (symbols .entry)) (now (l .entry)) (now (work .entry)) (now (out .entry)) r (now (work .exit)) (now (out .exit)) ⌝ }
+{
+    if !list_sized(l) {
+        return refuse(1);
+    }
+    if !tables_sized(parts, symbols) {
+        return refuse(1);
+    }
+    match list_rules(l) {
+        Verdict::Passed => write_ruled(l, parts, symbols, work, out),
+        Verdict::Refused(at) => Report::Refused(at),
+    }
+}
