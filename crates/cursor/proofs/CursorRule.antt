@@ -18,7 +18,7 @@ use Rattle.tree.specs.declared.types.TokenTree.{TokenTree}
 use Rattle.walk.specs.Source.{answerWords}
 use Rattle.cursor.specs.Open.{opened}
 use Rattle.cursor.specs.Moves.{freshCursor, written, Arrays}
-use Rattle.cursor.specs.Run.{Held, held, heldAs, MovedOn, Told, Peeked, Handed, Ran, inWords}
+use Rattle.cursor.specs.Run.{Held, held, heldAs, MovedOn, Handed, Ran, inWords}
 
 -- a call writes no array longer or shorter
 written-length : (f : Open → ℕ) (a : List ℕ) (d : ℕ) (os : List Open) → length (written f a d os) ≡ length a

@@ -1,7 +1,7 @@
 -- What a call answers, in document 01's numbers and values, and how it changes the cursor.
 use Prim.Native.Nat.{ℕ, _+_, _<_}
 use mathlib.Core.Path.{_≡_}
-use mathlib.Core.List.{List, [], _∷_}
+use mathlib.Core.List.{List, _∷_}
 use lib.ListN.{length, drop}
 use Rattle.format.specs.Reader as format
 use Rattle.format.specs.Cursor as calls
