@@ -27,7 +27,7 @@ use Rattle.cursor.specs.Open.{opened, cursorOf, cursorRow, inside}
 use Rattle.cursor.specs.Plan.{answerOf}
 use Rattle.cursor.specs.Moves.{atOf}
 use Rattle.cursor.specs.Look.{Tells, Here, blankLeaf, noLeaves, peekOf, tidy, Peeks, Second, First}
-use Rattle.cursor.specs.declared.open.At.{At}
+use Rattle.cursor.specs.declared.state.At.{At}
 use Rattle.cursor.specs.declared.plan.Answer as plan
 use Rattle.cursor.specs.declared.plan.Answer.the-variants as answers
 use Rattle.cursor.specs.declared.look.TwoLeaves.{TwoLeaves}

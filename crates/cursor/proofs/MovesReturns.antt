@@ -16,7 +16,7 @@ use Rattle.format.specs.Buffer.{wordShape, ownReader}
 use Rattle.cursor.specs.Open.{opened, cursorOf}
 use Rattle.cursor.specs.Plan.{changed, planOf, May, Planned}
 use Rattle.cursor.specs.Moves.{atOf, written, stateOf, Arrays, Moves, moved, stored, countIn, Applied}
-use Rattle.cursor.specs.declared.open.At.{At}
+use Rattle.cursor.specs.declared.state.At.{At}
 use Rattle.cursor.specs.declared.plan.Change.{Change}
 use Rattle.cursor.specs.declared.plan.Change.the-variants as changes
 use Rattle.cursor.specs.declared.plan.Opening.{Opening}

@@ -10,7 +10,7 @@ use lib.ListN.{length, getD}
 use Rattle.format.specs.Cursor.{Open, after, nestedIn}
 use Rattle.walk.specs.Source.{sizes, treeReader}
 use Rattle.cursor.specs.Open.{opened, cursorOf, cursorRow, closes, inside}
-use Rattle.cursor.specs.declared.open.At.{At}
+use Rattle.cursor.specs.declared.state.At.{At}
 
 pub opened-length : (ns cs ps : List ℕ) (d : ℕ) → length (opened ns cs ps d) ≡ d
 unfolding opened

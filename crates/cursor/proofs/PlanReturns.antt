@@ -24,7 +24,7 @@ use Rattle.walk.proofs.WalkWords.{reads-decoded}
 use Rattle.walk.proofs.WalkReturns.{leaf-flat, subtree-holds}
 use Rattle.cursor.specs.Open.{opened, cursorOf, cursorRow, closes}
 use Rattle.cursor.specs.Plan.{answerOf, changed, planOf, refusal, doing, May, cursorAt, Enters, GoesOn, Shuts, ShutsLast, Planned}
-use Rattle.cursor.specs.declared.open.At.{At}
+use Rattle.cursor.specs.declared.state.At.{At}
 use Rattle.cursor.specs.declared.plan.Answer.the-variants as answers
 use Rattle.cursor.specs.declared.plan.Change.the-variants as changes
 use Rattle.cursor.specs.declared.plan.Plan.{Plan}

@@ -16,7 +16,7 @@ use Rattle.walk.specs.Source.{treeShape, treeReader, answerWords}
 use Rattle.cursor.specs.Open.{cursorOf}
 use Rattle.cursor.specs.Plan.{answerOf}
 use Rattle.cursor.specs.Moves.{atOf}
-use Rattle.cursor.specs.declared.open.At.{At}
+use Rattle.cursor.specs.declared.state.At.{At}
 use Rattle.cursor.specs.declared.plan.Answer.{Answer}
 use Rattle.cursor.specs.declared.plan.Answer.the-variants.{None}
 use Rattle.cursor.specs.declared.look.Ahead.{Ahead}

@@ -11,7 +11,7 @@ use Rattle.format.specs.Buffer.{wordShape, ownReader}
 use Rattle.walk.specs.Source.{treeShape, treeReader, answerWords}
 use Rattle.cursor.specs.Open.{cursorOf}
 use Rattle.cursor.specs.Plan.{answerOf}
-use Rattle.cursor.specs.declared.open.At.{At}
+use Rattle.cursor.specs.declared.state.At.{At}
 use Rattle.cursor.specs.declared.plan.Answer.{Answer}
 use Rattle.cursor.specs.declared.plan.Change.{Change}
 use Rattle.cursor.specs.declared.plan.Change.the-variants.{Stay, On, Open as Opens, Shut}

@@ -10,7 +10,7 @@ use Rattle.tree.specs.declared.types.TokenTree.{TokenTree}
 use Rattle.decode.specs.declared.decode.TreeAt.{TreeAt}
 use Rattle.walk.specs.Source.{treeShape, treeReader}
 use Rattle.cursor.specs.Open.{opened, cursorOf}
-use Rattle.cursor.specs.declared.open.At.{At}
+use Rattle.cursor.specs.declared.state.At.{At}
 use Rattle.cursor.specs.declared.plan.Answer.{Answer}
 use Rattle.cursor.specs.declared.plan.Answer.the-variants.{Done, None, Tree, Refused}
 use Rattle.cursor.specs.declared.plan.Change.{Change}

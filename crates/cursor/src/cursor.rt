@@ -3,13 +3,13 @@
 use crate::look::TwoLeaves;
 use crate::look::peek_two_leaves;
 use crate::look::token_tree;
-use crate::open::At;
 use crate::plan::Answer;
 use crate::plan::Change;
 use crate::plan::Opening;
 use crate::plan::plan_bump;
 use crate::plan::plan_bump_or_end;
 use crate::plan::plan_end;
+use crate::state::At;
 ghost use mathlib.Core.Path.{_≡_};
 ghost use Prim.Native.Nat.{_+_, _<_};
 ghost use Rattle.format.specs.Cursor.{bump, end, bumpOrEnd};

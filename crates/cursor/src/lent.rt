@@ -1,11 +1,11 @@
 // The calls over a small state and three lent arrays, for callers that cannot pay two copies of a whole cursor a call.
-use crate::open::At;
 use crate::plan::Answer;
 use crate::plan::Change;
 use crate::plan::Opening;
 use crate::plan::plan_bump;
 use crate::plan::plan_bump_or_end;
 use crate::plan::plan_end;
+use crate::state::At;
 ghost use Prim.Native.Nat.{_+_, _<_};
 ghost use Rattle.format.specs.Cursor.{bump, end, bumpOrEnd};
 ghost use Rattle.cursor.specs.Plan.{May};

@@ -1,8 +1,8 @@
 // The calls that look and change nothing, over a small state and three lent arrays.
-use crate::open::At;
 use crate::open::cursor_row;
 use crate::open::lies_inside;
 use crate::plan::Answer;
+use crate::state::At;
 use decode::decode::TreeRead;
 use decode::decode::decode;
 use tree::refusal::Refusal;

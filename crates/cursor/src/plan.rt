@@ -1,8 +1,8 @@
 // What each call answers, and how it changes the cursor. The arrays are read here and not written.
-use crate::open::At;
-use crate::open::MOST_OPEN;
 use crate::open::closes_last;
 use crate::open::cursor_row;
+use crate::state::At;
+use crate::state::MOST_OPEN;
 use decode::decode::TreeAt;
 use decode::decode::TreeRead;
 use decode::decode::decode;
