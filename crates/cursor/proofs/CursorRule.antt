@@ -18,7 +18,7 @@ use Rattle.tree.specs.declared.types.TokenTree.{TokenTree}
 use Rattle.walk.specs.Source.{answerWords}
 use Rattle.cursor.specs.Open.{opened}
 use Rattle.cursor.specs.Moves.{freshCursor, written, Arrays}
-use Rattle.cursor.specs.Run.{Held, held, heldAs, MovedOn, Told, Peeked, Handed, Ran, inWords}
+use Rattle.cursor.specs.Run.{Held, held, heldAs, MovedOn, Handed, Ran, inWords}
 
 -- a call writes no array longer or shorter
 written-length : (f : Open → ℕ) (a : List ℕ) (d : ℕ) (os : List Open) → length (written f a d os) ≡ length a
@@ -50,12 +50,14 @@ module _ (b : List ℕ) (k : ℕ) (parts symbols : List ℕ) where
       → (inWords (a, h′) ≡ cursorStep wordShape O call (heldAs h)) × Full h′
   moved-on call h a h′ full m =
       let w : answerWords a ≡ cursorStep wordShape O call (heldAs h) .0 = ap answerWords (m .said) ∙ m .moves .words in
-      let n = m .moves .next full in
-      ((λ i. (w i, n i)), record {
-        numbers = ap length (m .moves .numbers) ∙ written-length _ _ _ _ ∙ full .numbers;
-        counts = ap length (m .moves .counts) ∙ written-length _ _ _ _ ∙ full .counts;
-        places = ap length (m .moves .places) ∙ written-length _ _ _ _ ∙ full .places;
-      })
+      let n = m .moves .next full in (
+        (λ i. (w i, n i)),
+        record {
+          numbers = ap length (m .moves .numbers) ∙ written-length _ _ _ _ ∙ full .numbers;
+          counts = ap length (m .moves .counts) ∙ written-length _ _ _ _ ∙ full .counts;
+          places = ap length (m .moves .places) ∙ written-length _ _ _ _ ∙ full .places;
+        },
+      )
 
   -- one call over every buffer, any cursor
   pub handed-is : (call : CursorCall) (h : Held) (a : Answer TokenTree) (h′ : Held) → Full h → Handed b k parts symbols call h a h′

@@ -1,12 +1,11 @@
 -- A call over the source's trees is, by list words, the call over the definitions' reader.
 use Prim.Native.Nat.{ℕ, _+_}
-use mathlib.Core.Bool.{Bool, true, false, not, _&&_}
-use mathlib.Core.Path.{_≡_, refl, sym, ap, _∙_}
+use mathlib.Core.Bool.{Bool, true, false}
+use mathlib.Core.Path.{_≡_, refl, ap, _∙_}
 use mathlib.Core.List.{List, [], _∷_}
-use lib.Dec.{leb, eqb, ltb}
+use lib.Dec.{leb, eqb}
 use lib.ListN.{length}
-use Rattle.format.specs.Test.{if_then_else_}
-use Rattle.format.specs.Reader.{Reader, Reply, got, bad, Answer, done, none, one, two, refused}
+use Rattle.format.specs.Reader.{Reader, Reply, got, bad, Answer}
 use Rattle.format.specs.Cursor.{Open, Cursor, CursorCall, bump, end, bumpOrEnd, tokenTree, peekTwoLeaves, closing, within, cursorFits, bumped, goOn, shut, shutLast, treeHere, secondLeaf, firstLeaf, cursorCall, cursorStep}
 use Rattle.format.specs.Buffer.{wordShape, ownReader}
 use Rattle.tree.specs.Types.{treeWordsOf}

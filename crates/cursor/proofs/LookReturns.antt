@@ -1,6 +1,6 @@
 -- One law for each return of the calls that look, with premises as the code's tests and calls give them.
-use Prim.Native.Nat.{ℕ, zero, suc, _+_, _<_, _≤_}
-use mathlib.Core.Bool.{Bool, true, false, not, _&&_}
+use Prim.Native.Nat.{ℕ, zero, suc, _+_, _<_}
+use mathlib.Core.Bool.{Bool, true, false, not}
 use mathlib.Core.Path.{_≡_, refl, sym, ap, _∙_, subst}
 use mathlib.Core.List.{List, [], _∷_}
 use native.Mathlib.Omega.{arith}
@@ -8,11 +8,9 @@ use native.Mathlib.Nat.{add-zero}
 use borrow.Author.Tests.{not-true, not-false, ltb-true}
 use lib.Dec.{ltb}
 use lib.ListN.{getD}
-use Rattle.format.specs.Test.{if_then_else_}
-use Rattle.format.specs.Reader.{Reader, Reply, got, bad, Answer, none, one, two, refused}
-use Rattle.format.specs.Cursor.{Cursor, CursorCall, tokenTree, peekTwoLeaves, within, treeHere, secondLeaf, firstLeaf, cursorCall, cursorStep}
-use Rattle.format.specs.Buffer.{wordShape, ownReader}
-use Rattle.format.proofs.Each.{and-left, true-false}
+use Rattle.format.specs.Reader.{Reply, got, bad, Answer, none, refused}
+use Rattle.format.specs.Cursor.{Cursor, tokenTree, peekTwoLeaves, within, treeHere, secondLeaf, firstLeaf, cursorCall, cursorStep}
+use Rattle.format.proofs.Each.{and-left}
 use Rattle.tree.specs.declared.types.TokenTree.{TokenTree}
 use Rattle.tree.specs.declared.types.TokenTree.the-variants as trees
 use Rattle.tree.specs.declared.types.Leaf.{Leaf}
@@ -29,7 +27,7 @@ use Rattle.cursor.specs.Open.{opened, cursorOf, cursorRow, inside}
 use Rattle.cursor.specs.Plan.{answerOf}
 use Rattle.cursor.specs.Moves.{atOf}
 use Rattle.cursor.specs.Look.{Tells, Here, blankLeaf, noLeaves, peekOf, tidy, Peeks, Second, First}
-use Rattle.cursor.specs.declared.open.At.{At}
+use Rattle.cursor.specs.declared.state.At.{At}
 use Rattle.cursor.specs.declared.plan.Answer as plan
 use Rattle.cursor.specs.declared.plan.Answer.the-variants as answers
 use Rattle.cursor.specs.declared.look.TwoLeaves.{TwoLeaves}

@@ -1,24 +1,22 @@
 -- One law for each return of the calls that move the cursor, with premises as the code's tests and calls give them.
 use Prim.Native.Nat.{ℕ, zero, suc, _+_, _-_, _<_, _≤_}
-use mathlib.Core.Bool.{Bool, true, false}
+use mathlib.Core.Bool.{true, false}
 use mathlib.Core.Path.{_≡_, refl, sym, ap, _∙_, subst}
 use mathlib.Core.List.{List, [], _∷_}
 use native.Mathlib.Omega.{arith}
 use borrow.Author.Tests.{eq-eqb, ne-eqb}
 use lib.Dec.{eqb}
-use lib.ListN.{length, getD, set, drop}
+use lib.ListN.{length, set, drop}
 use lib.Seq.{getD-set-same, getD-set-other}
 use native.Mathlib.Numerals.{add-one}
 use mathlib.Core.Logic.{_≢_}
-use Rattle.format.specs.Test.{if_then_else_}
 use Rattle.format.specs.Cursor as calls
 use Rattle.format.specs.Cursor.{Open, CursorCall, cursorStep}
 use Rattle.format.specs.Buffer.{wordShape, ownReader}
-use Rattle.walk.specs.Source.{treeShape, treeReader, answerWords}
 use Rattle.cursor.specs.Open.{opened, cursorOf}
-use Rattle.cursor.specs.Plan.{answerOf, changed, planOf, May, Planned}
+use Rattle.cursor.specs.Plan.{changed, planOf, May, Planned}
 use Rattle.cursor.specs.Moves.{atOf, written, stateOf, Arrays, Moves, moved, stored, countIn, Applied}
-use Rattle.cursor.specs.declared.open.At.{At}
+use Rattle.cursor.specs.declared.state.At.{At}
 use Rattle.cursor.specs.declared.plan.Change.{Change}
 use Rattle.cursor.specs.declared.plan.Change.the-variants as changes
 use Rattle.cursor.specs.declared.plan.Opening.{Opening}

@@ -2,16 +2,15 @@
 use Prim.Native.Nat.{ℕ, zero, suc, _+_, _-_, _<_, _≤_}
 use mathlib.Core.Bool.{Bool, true, false, not, _&&_}
 use mathlib.Core.Path.{_≡_, refl, sym, ap, _∙_, subst}
-use mathlib.Core.List.{List, [], _∷_}
+use mathlib.Core.List.{List, _∷_}
 use native.Mathlib.Omega.{arith}
 use borrow.Author.Tests.{le-leb, lt-leb, lt-ltb, le-ltb, eq-eqb, ne-eqb, not-true, not-false}
 use lib.Dec.{leb, ltb, eqb}
 use lib.ListN.{length, getD}
-use Rattle.format.specs.Test.{if_then_else_}
-use Rattle.format.specs.Cursor.{Open, Cursor, after, nestedIn}
-use Rattle.walk.specs.Source.{sizes, treeShape, treeReader}
+use Rattle.format.specs.Cursor.{Open, after, nestedIn}
+use Rattle.walk.specs.Source.{sizes, treeReader}
 use Rattle.cursor.specs.Open.{opened, cursorOf, cursorRow, closes, inside}
-use Rattle.cursor.specs.declared.open.At.{At}
+use Rattle.cursor.specs.declared.state.At.{At}
 
 pub opened-length : (ns cs ps : List ℕ) (d : ℕ) → length (opened ns cs ps d) ≡ d
 unfolding opened

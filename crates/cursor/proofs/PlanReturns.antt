@@ -4,11 +4,10 @@ use mathlib.Core.Bool.{Bool, true, false, not, _&&_}
 use mathlib.Core.Path.{_≡_, refl, sym, ap, _∙_, subst}
 use mathlib.Core.List.{List, [], _∷_}
 use native.Mathlib.Omega.{arith}
-use borrow.Author.Tests.{le-leb, lt-leb, leb-true, lt-ltb, le-ltb, eq-eqb, ne-eqb, not-true, not-false}
-use lib.Dec.{leb, ltb, eqb}
+use borrow.Author.Tests.{le-leb, lt-leb, leb-true, eq-eqb, ne-eqb, not-true, not-false}
+use lib.Dec.{leb}
 use lib.ListN.{length, getD, drop}
-use Rattle.format.specs.Test.{if_then_else_}
-use Rattle.format.specs.Reader.{Reader, Reply, got, bad, done, none, one, refused}
+use Rattle.format.specs.Reader.{Reader, Reply, got, bad, refused}
 use Rattle.format.specs.Cursor.{Open, Cursor, CursorCall, bump, end, bumpOrEnd, closing, cursorFits, bumped, goOn, shut, shutLast, dropLast, cursorCall, cursorStep, nestedIn}
 use Rattle.format.proofs.Each.{and-left, and-right, true-false}
 use Rattle.tree.specs.declared.types.TokenTree.{TokenTree}
@@ -25,9 +24,8 @@ use Rattle.walk.proofs.WalkWords.{reads-decoded}
 use Rattle.walk.proofs.WalkReturns.{leaf-flat, subtree-holds}
 use Rattle.cursor.specs.Open.{opened, cursorOf, cursorRow, closes}
 use Rattle.cursor.specs.Plan.{answerOf, changed, planOf, refusal, doing, May, cursorAt, Enters, GoesOn, Shuts, ShutsLast, Planned}
-use Rattle.cursor.specs.declared.open.At.{At}
+use Rattle.cursor.specs.declared.state.At.{At}
 use Rattle.cursor.specs.declared.plan.Answer.the-variants as answers
-use Rattle.cursor.specs.declared.plan.Change.{Change}
 use Rattle.cursor.specs.declared.plan.Change.the-variants as changes
 use Rattle.cursor.specs.declared.plan.Plan.{Plan}
 use Rattle.cursor.proofs.OpenReturns.{opened-length, opened-last}

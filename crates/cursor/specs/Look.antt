@@ -15,11 +15,13 @@ use Rattle.tree.specs.declared.types.TokenTree.the-variants as trees
 use Rattle.walk.specs.Source.{treeShape, treeReader, answerWords}
 use Rattle.cursor.specs.Open.{cursorOf}
 use Rattle.cursor.specs.Plan.{answerOf}
-use Rattle.cursor.specs.declared.open.At.{At}
+use Rattle.cursor.specs.Moves.{atOf}
+use Rattle.cursor.specs.declared.state.At.{At}
 use Rattle.cursor.specs.declared.plan.Answer.{Answer}
 use Rattle.cursor.specs.declared.plan.Answer.the-variants.{None}
 use Rattle.cursor.specs.declared.look.Ahead.{Ahead}
 use Rattle.cursor.specs.declared.look.TwoLeaves.{TwoLeaves}
+use Rattle.cursor.specs.declared.cursor.Cursor.{Cursor}
 
 -- ---- one tree
 
@@ -27,6 +29,10 @@ use Rattle.cursor.specs.declared.look.TwoLeaves.{TwoLeaves}
 pub record Tells (b : List ℕ) (k : ℕ) (parts symbols : List ℕ) (c : At) (ns cs ps : List ℕ) (r : Answer) : Type 0 where
   pub exact : answerOf r ≡ cursorStep treeShape (treeReader b k parts symbols) tokenTree (cursorOf c ns cs ps) .0
   pub words : answerWords (answerOf r) ≡ cursorStep wordShape (ownReader b k parts symbols) tokenTree (cursorOf c ns cs ps) .0
+
+-- by value
+abbrev pub TellsOf : List ℕ → ℕ → List ℕ → List ℕ → Cursor → Answer → Type 0
+TellsOf b k parts symbols c r = Tells b k parts symbols (atOf c) (c .numbers) (c .counts) (c .places) r
 
 pub record Here (b parts symbols : List ℕ) (c : At) (r : Answer) : Type 0 where
   pub step : (k : ℕ) → answerOf r ≡ treeHere treeShape (treeReader b k parts symbols) (c .number) (treeReader b k parts symbols .read (c .number) (c .place))
@@ -56,6 +62,10 @@ pub record Peeks (b : List ℕ) (k : ℕ) (parts symbols : List ℕ) (c : At) (n
   pub exact : peekOf r ≡ cursorStep treeShape (treeReader b k parts symbols) peekTwoLeaves (cursorOf c ns cs ps) .0
   pub words : answerWords (peekOf r) ≡ cursorStep wordShape (ownReader b k parts symbols) peekTwoLeaves (cursorOf c ns cs ps) .0
   pub whole : r ≡ tidy r
+
+-- by value
+abbrev pub PeeksOf : List ℕ → ℕ → List ℕ → List ℕ → Cursor → TwoLeaves → Type 0
+PeeksOf b k parts symbols c r = Peeks b k parts symbols (atOf c) (c .numbers) (c .counts) (c .places) r
 
 pub record Second (b parts symbols : List ℕ) (n p : ℕ) (near : Leaf) (r : TwoLeaves) : Type 0 where
   pub step : (k : ℕ) → peekOf r ≡ secondLeaf treeShape (treeReader b k parts symbols) n (trees.Leaf near) (treeReader b k parts symbols .read (n + 1) p)

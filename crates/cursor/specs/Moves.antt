@@ -11,11 +11,12 @@ use Rattle.format.specs.Buffer.{wordShape, ownReader}
 use Rattle.walk.specs.Source.{treeShape, treeReader, answerWords}
 use Rattle.cursor.specs.Open.{cursorOf}
 use Rattle.cursor.specs.Plan.{answerOf}
-use Rattle.cursor.specs.declared.open.At.{At}
+use Rattle.cursor.specs.declared.state.At.{At}
 use Rattle.cursor.specs.declared.plan.Answer.{Answer}
 use Rattle.cursor.specs.declared.plan.Change.{Change}
 use Rattle.cursor.specs.declared.plan.Change.the-variants.{Stay, On, Open as Opens, Shut}
 use Rattle.cursor.specs.declared.cursor.Cursor.{Cursor}
+use Rattle.cursor.specs.declared.cursor.Next.{Next}
 
 abbrev pub atOf : Cursor → At
 atOf c = record { place = c .place; number = c .number; depth = c .depth }
@@ -59,6 +60,12 @@ pub record Moves (b : List ℕ) (k : ℕ) (parts symbols : List ℕ) (call : Cur
   -- so that the next cursor is the definition's
   pub next : Arrays ns cs ps → cursorOf c′ ns′ cs′ ps′ ≡ cursorStep wordShape (ownReader b k parts symbols) call (cursorOf c ns cs ps) .1
 
+-- by value
+abbrev pub Stepped : List ℕ → ℕ → List ℕ → List ℕ → CursorCall → Cursor → Next → Type 0
+Stepped b k parts symbols call c r =
+    Moves b k parts symbols call (atOf c) (c .numbers) (c .counts) (c .places) (r .answer) (atOf (r .cursor))
+    (r .cursor .numbers) (r .cursor .counts) (r .cursor .places)
+
 -- ---- a change carried out
 
 unfoldable pub moved : Change → At → At
@@ -84,3 +91,7 @@ pub record Applied (c : At) (change : Change) (ns cs ps : List ℕ) (c′ : At) 
   pub numbers : ns′ ≡ stored change ns (c .depth) (c .number)
   pub counts : cs′ ≡ stored change cs (c .depth) (countIn change)
   pub places : ps′ ≡ stored change ps (c .depth) (c .place)
+
+-- by value
+abbrev pub AppliedTo : Cursor → Change → Cursor → Type 0
+AppliedTo c change d = Applied (atOf c) change (c .numbers) (c .counts) (c .places) (atOf d) (d .numbers) (d .counts) (d .places)

@@ -1,6 +1,6 @@
 -- A cursor's open subtrees in three arrays, and the tests on them.
 use Prim.Native.Nat.{ℕ, zero, suc, _+_}
-use mathlib.Core.Bool.{Bool, true, false, not, _&&_}
+use mathlib.Core.Bool.{Bool, false, not, _&&_}
 use mathlib.Core.List.{List, [], _∷_}
 use lib.Dec.{ltb, eqb}
 use lib.ListN.{getD}
@@ -9,7 +9,7 @@ use Rattle.format.specs.Reader.{Reader}
 use Rattle.format.specs.Cursor.{Open, Cursor, cursorFits}
 use Rattle.tree.specs.declared.types.TokenTree.{TokenTree}
 use Rattle.walk.specs.Source.{treeShape}
-use Rattle.cursor.specs.declared.open.At.{At}
+use Rattle.cursor.specs.declared.state.At.{At}
 
 -- the first d entries of numbers, counts and places, the last opened first: entries past the open ones are not looked at
 unfoldable pub opened : List ℕ → List ℕ → List ℕ → ℕ → List Open

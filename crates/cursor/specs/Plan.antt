@@ -1,7 +1,7 @@
 -- What a call answers, in document 01's numbers and values, and how it changes the cursor.
 use Prim.Native.Nat.{ℕ, _+_, _<_}
 use mathlib.Core.Path.{_≡_}
-use mathlib.Core.List.{List, [], _∷_}
+use mathlib.Core.List.{List, _∷_}
 use lib.ListN.{length, drop}
 use Rattle.format.specs.Reader as format
 use Rattle.format.specs.Cursor as calls
@@ -10,7 +10,7 @@ use Rattle.tree.specs.declared.types.TokenTree.{TokenTree}
 use Rattle.decode.specs.declared.decode.TreeAt.{TreeAt}
 use Rattle.walk.specs.Source.{treeShape, treeReader}
 use Rattle.cursor.specs.Open.{opened, cursorOf}
-use Rattle.cursor.specs.declared.open.At.{At}
+use Rattle.cursor.specs.declared.state.At.{At}
 use Rattle.cursor.specs.declared.plan.Answer.{Answer}
 use Rattle.cursor.specs.declared.plan.Answer.the-variants.{Done, None, Tree, Refused}
 use Rattle.cursor.specs.declared.plan.Change.{Change}

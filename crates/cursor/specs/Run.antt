@@ -11,7 +11,7 @@ use Rattle.cursor.specs.Open.{cursorOf}
 use Rattle.cursor.specs.Plan.{answerOf}
 use Rattle.cursor.specs.Moves.{atOf, Moves}
 use Rattle.cursor.specs.Look.{Tells, peekOf, Peeks}
-use Rattle.cursor.specs.declared.open.At.{At}
+use Rattle.cursor.specs.declared.state.At.{At}
 use Rattle.cursor.specs.declared.plan.Answer.{Answer}
 use Rattle.cursor.specs.declared.look.TwoLeaves.{TwoLeaves}
 use Rattle.cursor.specs.declared.cursor.Cursor.{Cursor}

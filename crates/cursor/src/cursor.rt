@@ -1,21 +1,22 @@
-// The cursor by value: every step takes it and hands back the next.
+// The cursor by value: every step takes it and hands back the next. That copies it whole; `lent` has the same calls
+// without the copies.
 use crate::look::TwoLeaves;
 use crate::look::peek_two_leaves;
 use crate::look::token_tree;
-use crate::open::At;
 use crate::plan::Answer;
 use crate::plan::Change;
 use crate::plan::Opening;
 use crate::plan::plan_bump;
 use crate::plan::plan_bump_or_end;
 use crate::plan::plan_end;
+use crate::state::At;
 ghost use mathlib.Core.Path.{_≡_};
 ghost use Prim.Native.Nat.{_+_, _<_};
 ghost use Rattle.format.specs.Cursor.{bump, end, bumpOrEnd};
 ghost use Rattle.cursor.specs.Plan.{May};
 ghost use Rattle.cursor.specs.declared.plan.Change.the-variants as changes;
-ghost use Rattle.cursor.specs.Look.{Tells, Peeks};
-ghost use Rattle.cursor.specs.Moves.{atOf, freshCursor, Applied, Moves};
+ghost use Rattle.cursor.specs.Look.{TellsOf, PeeksOf};
+ghost use Rattle.cursor.specs.Moves.{atOf, freshCursor, AppliedTo, Stepped};
 
 // The entries below `depth` are the open subtrees.
 pub struct Cursor {
@@ -63,7 +64,7 @@ impl Cursor {
     // An opening writes the one entry behind the open subtrees, and nothing else is written.
     fn enter(mut self, opening: Opening) -> Cursor
         requires { ⌜ (self .number + 1 < 4294967296) × (self .depth < 256) ⌝ }
-        ensures { λ r. ⌜ Applied (atOf self) (changes.Open opening) (self .numbers) (self .counts) (self .places) (atOf r) (r .numbers) (r .counts) (r .places) ⌝ }
+        ensures { λ r. ⌜ AppliedTo self (changes.Open opening) r ⌝ }
     {
         let depth = self.depth;
         let count = opening.count;
@@ -78,7 +79,7 @@ impl Cursor {
 
     fn apply(mut self, change: Change) -> Cursor
         requires { ⌜ May (atOf self) change ⌝ }
-        ensures { λ r. ⌜ Applied (atOf self) change (self .numbers) (self .counts) (self .places) (atOf r) (r .numbers) (r .counts) (r .places) ⌝ }
+        ensures { λ r. ⌜ AppliedTo self change r ⌝ }
     {
         match change {
             Change::Stay => self,
@@ -96,7 +97,7 @@ impl Cursor {
     }
 
     pub fn bump(self, b: &[u8], trees: u32, parts: &[u32], symbols: &[u32]) -> Next
-        ensures { λ r. ⌜ Moves (now (b .entry)) trees (now (parts .entry)) (now (symbols .entry)) bump (atOf self) (self .numbers) (self .counts) (self .places) (r .answer) (atOf (r .cursor)) (r .cursor .numbers) (r .cursor .counts) (r .cursor .places) ⌝ }
+        ensures { λ r. ⌜ Stepped (now (b .entry)) trees (now (parts .entry)) (now (symbols .entry)) bump self r ⌝ }
     {
         let plan = plan_bump(
             b,
@@ -118,7 +119,7 @@ impl Cursor {
     }
 
     pub fn end(self, b: &[u8], trees: u32, parts: &[u32], symbols: &[u32]) -> Next
-        ensures { λ r. ⌜ Moves (now (b .entry)) trees (now (parts .entry)) (now (symbols .entry)) end (atOf self) (self .numbers) (self .counts) (self .places) (r .answer) (atOf (r .cursor)) (r .cursor .numbers) (r .cursor .counts) (r .cursor .places) ⌝ }
+        ensures { λ r. ⌜ Stepped (now (b .entry)) trees (now (parts .entry)) (now (symbols .entry)) end self r ⌝ }
     {
         let plan = plan_end(
             b,
@@ -140,7 +141,7 @@ impl Cursor {
     }
 
     pub fn bump_or_end(self, b: &[u8], trees: u32, parts: &[u32], symbols: &[u32]) -> Next
-        ensures { λ r. ⌜ Moves (now (b .entry)) trees (now (parts .entry)) (now (symbols .entry)) bumpOrEnd (atOf self) (self .numbers) (self .counts) (self .places) (r .answer) (atOf (r .cursor)) (r .cursor .numbers) (r .cursor .counts) (r .cursor .places) ⌝ }
+        ensures { λ r. ⌜ Stepped (now (b .entry)) trees (now (parts .entry)) (now (symbols .entry)) bumpOrEnd self r ⌝ }
     {
         let plan = plan_bump_or_end(
             b,
@@ -162,7 +163,7 @@ impl Cursor {
     }
 
     pub fn token_tree(self, b: &[u8], trees: u32, parts: &[u32], symbols: &[u32]) -> Answer
-        ensures { λ r. ⌜ Tells (now (b .entry)) trees (now (parts .entry)) (now (symbols .entry)) (atOf self) (self .numbers) (self .counts) (self .places) r ⌝ }
+        ensures { λ r. ⌜ TellsOf (now (b .entry)) trees (now (parts .entry)) (now (symbols .entry)) self r ⌝ }
     {
         token_tree(
             b,
@@ -177,7 +178,7 @@ impl Cursor {
     }
 
     pub fn peek_two_leaves(self, b: &[u8], trees: u32, parts: &[u32], symbols: &[u32]) -> TwoLeaves
-        ensures { λ r. ⌜ Peeks (now (b .entry)) trees (now (parts .entry)) (now (symbols .entry)) (atOf self) (self .numbers) (self .counts) (self .places) r ⌝ }
+        ensures { λ r. ⌜ PeeksOf (now (b .entry)) trees (now (parts .entry)) (now (symbols .entry)) self r ⌝ }
     {
         peek_two_leaves(
             b,

@@ -1,11 +1,11 @@
 // The calls over a small state and three lent arrays, for callers that cannot pay two copies of a whole cursor a call.
-use crate::open::At;
 use crate::plan::Answer;
 use crate::plan::Change;
 use crate::plan::Opening;
 use crate::plan::plan_bump;
 use crate::plan::plan_bump_or_end;
 use crate::plan::plan_end;
+use crate::state::At;
 ghost use Prim.Native.Nat.{_+_, _<_};
 ghost use Rattle.format.specs.Cursor.{bump, end, bumpOrEnd};
 ghost use Rattle.cursor.specs.Plan.{May};
@@ -26,7 +26,9 @@ fn enter(
     places: &mut [usize; 256],
 ) -> At
     requires { ⌜ (at .number + 1 < 4294967296) × (at .depth < 256) ⌝ }
-    ensures { λ r. ⌜ Applied at (changes.Open opening) (now (numbers .entry)) (now (counts .entry)) (now (places .entry)) r (now (numbers .exit)) (now (counts .exit)) (now (places .exit)) ⌝ }
+    ensures { λ r. ⌜ Applied at (changes.Open opening)
+        (now (numbers .entry)) (now (counts .entry)) (now (places .entry))
+        r (now (numbers .exit)) (now (counts .exit)) (now (places .exit)) ⌝ }
 {
     let depth = at.depth;
     let count = opening.count;
@@ -48,7 +50,9 @@ fn apply(
     places: &mut [usize; 256],
 ) -> At
     requires { ⌜ May at change ⌝ }
-    ensures { λ r. ⌜ Applied at change (now (numbers .entry)) (now (counts .entry)) (now (places .entry)) r (now (numbers .exit)) (now (counts .exit)) (now (places .exit)) ⌝ }
+    ensures { λ r. ⌜ Applied at change
+        (now (numbers .entry)) (now (counts .entry)) (now (places .entry))
+        r (now (numbers .exit)) (now (counts .exit)) (now (places .exit)) ⌝ }
 {
     match change {
         Change::Stay => at,
@@ -76,7 +80,9 @@ pub fn bump(
     counts: &mut [u32; 256],
     places: &mut [usize; 256],
 ) -> Moved
-    ensures { λ r. ⌜ Moves (now (b .entry)) trees (now (parts .entry)) (now (symbols .entry)) bump at (now (numbers .entry)) (now (counts .entry)) (now (places .entry)) (r .answer) (r .at) (now (numbers .exit)) (now (counts .exit)) (now (places .exit)) ⌝ }
+    ensures { λ r. ⌜ Moves (now (b .entry)) trees (now (parts .entry)) (now (symbols .entry)) bump
+        at (now (numbers .entry)) (now (counts .entry)) (now (places .entry))
+        (r .answer) (r .at) (now (numbers .exit)) (now (counts .exit)) (now (places .exit)) ⌝ }
 {
     let plan = plan_bump(b, trees, parts, symbols, at, numbers, counts, places);
     let answer = plan.answer;
@@ -98,7 +104,9 @@ pub fn end(
     counts: &mut [u32; 256],
     places: &mut [usize; 256],
 ) -> Moved
-    ensures { λ r. ⌜ Moves (now (b .entry)) trees (now (parts .entry)) (now (symbols .entry)) end at (now (numbers .entry)) (now (counts .entry)) (now (places .entry)) (r .answer) (r .at) (now (numbers .exit)) (now (counts .exit)) (now (places .exit)) ⌝ }
+    ensures { λ r. ⌜ Moves (now (b .entry)) trees (now (parts .entry)) (now (symbols .entry)) end
+        at (now (numbers .entry)) (now (counts .entry)) (now (places .entry))
+        (r .answer) (r .at) (now (numbers .exit)) (now (counts .exit)) (now (places .exit)) ⌝ }
 {
     let plan = plan_end(b, trees, parts, symbols, at, numbers, counts, places);
     let answer = plan.answer;
@@ -120,7 +128,9 @@ pub fn bump_or_end(
     counts: &mut [u32; 256],
     places: &mut [usize; 256],
 ) -> Moved
-    ensures { λ r. ⌜ Moves (now (b .entry)) trees (now (parts .entry)) (now (symbols .entry)) bumpOrEnd at (now (numbers .entry)) (now (counts .entry)) (now (places .entry)) (r .answer) (r .at) (now (numbers .exit)) (now (counts .exit)) (now (places .exit)) ⌝ }
+    ensures { λ r. ⌜ Moves (now (b .entry)) trees (now (parts .entry)) (now (symbols .entry)) bumpOrEnd
+        at (now (numbers .entry)) (now (counts .entry)) (now (places .entry))
+        (r .answer) (r .at) (now (numbers .exit)) (now (counts .exit)) (now (places .exit)) ⌝ }
 {
     let plan = plan_bump_or_end(b, trees, parts, symbols, at, numbers, counts, places);
     let answer = plan.answer;

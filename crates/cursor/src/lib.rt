@@ -2,5 +2,6 @@
 pub mod cursor;
 pub mod lent;
 pub mod look;
-pub mod open;
+mod open;
 pub mod plan;
+pub mod state;

@@ -1,8 +1,8 @@
 // The calls that look and change nothing, over a small state and three lent arrays.
-use crate::open::At;
 use crate::open::cursor_row;
 use crate::open::lies_inside;
 use crate::plan::Answer;
+use crate::state::At;
 use decode::decode::TreeRead;
 use decode::decode::decode;
 use tree::refusal::Refusal;
@@ -62,7 +62,8 @@ pub fn token_tree<'a>(
     counts: &'a [u32; 256],
     places: &'a [usize; 256],
 ) -> Answer
-    ensures { λ r. ⌜ Tells (now (b .entry)) trees (now (parts .entry)) (now (symbols .entry)) at (now (numbers .entry)) (now (counts .entry)) (now (places .entry)) r ⌝ }
+    ensures { λ r. ⌜ Tells (now (b .entry)) trees (now (parts .entry)) (now (symbols .entry))
+        at (now (numbers .entry)) (now (counts .entry)) (now (places .entry)) r ⌝ }
 {
     let row = cursor_row(b, trees, parts, symbols, at, numbers, counts, places);
     if row != 0 {
@@ -164,7 +165,8 @@ pub fn peek_two_leaves<'a>(
     counts: &'a [u32; 256],
     places: &'a [usize; 256],
 ) -> TwoLeaves
-    ensures { λ r. ⌜ Peeks (now (b .entry)) trees (now (parts .entry)) (now (symbols .entry)) at (now (numbers .entry)) (now (counts .entry)) (now (places .entry)) r ⌝ }
+    ensures { λ r. ⌜ Peeks (now (b .entry)) trees (now (parts .entry)) (now (symbols .entry))
+        at (now (numbers .entry)) (now (counts .entry)) (now (places .entry)) r ⌝ }
 {
     let row = cursor_row(b, trees, parts, symbols, at, numbers, counts, places);
     if row != 0 {

@@ -1,22 +1,14 @@
 // The open subtrees of a cursor, in three lent arrays: tree number, descendant count and byte place of each.
 // Any state may be handed in with any arrays, so each call goes over all that are open: no smaller test tells
 // whether they nest.
+use crate::state::At;
+use crate::state::MOST_OPEN;
 use walk::sizes::sized;
 ghost use mathlib.Core.Path.{_≡_};
 ghost use Prim.Native.Nat.{_+_, _<_, _≤_};
 ghost use Rattle.format.specs.Cursor.{nestedIn};
 ghost use Rattle.walk.specs.Source.{treeReader};
 ghost use Rattle.cursor.specs.Open.{opened, closes, inside, cursorOf, cursorRow};
-
-// A cursor without its arrays.
-pub struct At {
-    pub place: usize,
-    pub number: u32,
-    pub depth: usize,
-}
-
-// More open subtrees than this are a disagreement.
-pub const MOST_OPEN: usize = 256;
 
 fn wide(n: u32) -> u64
     ensures { λ r. ⌜ (r ≡ n) × (r < 4294967296) ⌝ }

@@ -1,8 +1,8 @@
 // What each call answers, and how it changes the cursor. The arrays are read here and not written.
-use crate::open::At;
-use crate::open::MOST_OPEN;
 use crate::open::closes_last;
 use crate::open::cursor_row;
+use crate::state::At;
+use crate::state::MOST_OPEN;
 use decode::decode::TreeAt;
 use decode::decode::TreeRead;
 use decode::decode::decode;
@@ -132,7 +132,8 @@ fn shut_last<'a>(
     places: &'a [usize; 256],
 ) -> Plan
     requires { ⌜ (0 < at .depth) × (at .depth ≤ 256) ⌝ }
-    ensures { λ r. ⌜ ShutsLast (now (b .entry)) (now (parts .entry)) (now (symbols .entry)) at (now (numbers .entry)) (now (counts .entry)) (now (places .entry)) r ⌝ }
+    ensures { λ r. ⌜ ShutsLast (now (b .entry)) (now (parts .entry)) (now (symbols .entry))
+        at (now (numbers .entry)) (now (counts .entry)) (now (places .entry)) r ⌝ }
 {
     let last = at.depth - 1;
     let number = numbers[last];
@@ -154,7 +155,8 @@ pub fn plan_bump<'a>(
     counts: &'a [u32; 256],
     places: &'a [usize; 256],
 ) -> Plan
-    ensures { λ r. ⌜ Planned (now (b .entry)) trees (now (parts .entry)) (now (symbols .entry)) bump at (now (numbers .entry)) (now (counts .entry)) (now (places .entry)) r ⌝ }
+    ensures { λ r. ⌜ Planned (now (b .entry)) trees (now (parts .entry)) (now (symbols .entry)) bump
+        at (now (numbers .entry)) (now (counts .entry)) (now (places .entry)) r ⌝ }
 {
     let row = cursor_row(b, trees, parts, symbols, at, numbers, counts, places);
     if row != 0 {
@@ -177,7 +179,8 @@ pub fn plan_end<'a>(
     counts: &'a [u32; 256],
     places: &'a [usize; 256],
 ) -> Plan
-    ensures { λ r. ⌜ Planned (now (b .entry)) trees (now (parts .entry)) (now (symbols .entry)) end at (now (numbers .entry)) (now (counts .entry)) (now (places .entry)) r ⌝ }
+    ensures { λ r. ⌜ Planned (now (b .entry)) trees (now (parts .entry)) (now (symbols .entry)) end
+        at (now (numbers .entry)) (now (counts .entry)) (now (places .entry)) r ⌝ }
 {
     let row = cursor_row(b, trees, parts, symbols, at, numbers, counts, places);
     if row != 0 {
@@ -200,7 +203,8 @@ pub fn plan_bump_or_end<'a>(
     counts: &'a [u32; 256],
     places: &'a [usize; 256],
 ) -> Plan
-    ensures { λ r. ⌜ Planned (now (b .entry)) trees (now (parts .entry)) (now (symbols .entry)) bumpOrEnd at (now (numbers .entry)) (now (counts .entry)) (now (places .entry)) r ⌝ }
+    ensures { λ r. ⌜ Planned (now (b .entry)) trees (now (parts .entry)) (now (symbols .entry)) bumpOrEnd
+        at (now (numbers .entry)) (now (counts .entry)) (now (places .entry)) r ⌝ }
 {
     let row = cursor_row(b, trees, parts, symbols, at, numbers, counts, places);
     if row != 0 {

@@ -1,12 +1,11 @@
 -- One law for each return of `last_span` and its parts, with premises as the code's tests and calls give them.
 use Prim.Native.Nat.{ℕ, _<_, _≤_}
-use mathlib.Core.Bool.{true, false, _&&_}
-use mathlib.Core.Path.{_≡_, refl, sym, ap, _∙_, subst}
+use mathlib.Core.Bool.{true, false}
+use mathlib.Core.Path.{_≡_, sym, ap, _∙_, subst}
 use mathlib.Core.List.{List}
 use native.Mathlib.Omega.{arith}
-use borrow.Author.Tests.{lt-ltb, le-ltb}
+use borrow.Author.Tests.{lt-ltb}
 use lib.Dec.{ltb}
-use Rattle.format.specs.Test.{if_then_else_}
 use Rattle.format.specs.Reader.{Reader, Answer, none, one, refused}
 use Rattle.format.specs.Walk as steps
 use Rattle.format.specs.Walk.{advance, skip, walkStep}
@@ -25,8 +24,8 @@ use Rattle.tree.specs.declared.types.Leaf.the-variants as leaves
 use Rattle.tree.specs.declared.types.TokenTree.{TokenTree}
 use Rattle.tree.specs.declared.types.TokenTree.the-variants as trees
 use Rattle.walk.specs.Source.{treeShape, answerWords}
-use Rattle.walk.specs.Walk.{walkOf, answerOf, stepWords, Stepped}
-use Rattle.walk.specs.Last.{lastOf, AtLast, Same, Goes}
+use Rattle.walk.specs.Walk.{walkOf, answerOf, Stepped}
+use Rattle.walk.specs.Last.{lastOf, AtLast, Goes}
 use Rattle.walk.specs.declared.walk.Walk.{Walk}
 use Rattle.walk.specs.declared.walk.Answer.the-variants as answers
 use Rattle.walk.specs.declared.walk.Step.{Step}

@@ -5,9 +5,8 @@ use mathlib.Core.Path.{_≡_, refl, sym, ap, _∙_, subst}
 use mathlib.Core.List.{List}
 use native.Mathlib.Omega.{arith}
 use borrow.Author.Tests.{le-leb, lt-leb, leb-true, lt-ltb, le-ltb, eq-eqb, ne-eqb, not-true, not-false}
-use lib.Dec.{leb, eqb, ltb}
+use lib.Dec.{leb, ltb}
 use lib.ListN.{length}
-use Rattle.format.specs.Test.{if_then_else_}
 use Rattle.format.specs.Reader.{Reader, Reply, got, bad, none, one, refused}
 use Rattle.format.specs.Walk as steps
 use Rattle.format.specs.Walk.{WalkCall, advance, skip, walkFits, walkRead, walkStep}
@@ -27,7 +26,7 @@ use Rattle.decode.specs.declared.decode.TreeAt.{TreeAt}
 use Rattle.decode.specs.declared.decode.TreeRead.{TreeRead}
 use Rattle.decode.specs.declared.decode.TreeRead.the-variants as reads
 use Rattle.decode.proofs.DecodeUse.{decoded-got, decoded-refused}
-use Rattle.walk.specs.Source.{sizes, treeShape, treeReader, answerWords}
+use Rattle.walk.specs.Source.{sizes, treeShape, treeReader}
 use Rattle.walk.specs.Walk.{walkOf, answerOf, stepOf, Stepped, walkRow, Within, ReadAt, Begins, passed, passedOver}
 use Rattle.walk.specs.declared.walk.Walk.{Walk}
 use Rattle.walk.specs.declared.walk.Answer.the-variants.{Tree, None, Refused}

@@ -1,13 +1,13 @@
 -- DEMAND 3 of the walk's functions: over a buffer that the check passed, every list of calls answers as the plain machine does.
 use Prim.Native.Nat.{ℕ, _+_, _-_, _<_}
 use mathlib.Core.Bool.{true}
-use mathlib.Core.Path.{_≡_, refl, sym, ap, _∙_, subst}
+use mathlib.Core.Path.{_≡_, refl, sym, ap, _∙_}
 use mathlib.Core.List.{List, [], _∷_, map}
 use lib.ListN.{replicate}
 use Rattle.format.specs.Verdict.{passed}
 use Rattle.format.specs.Reader.{Reader, Answer, one}
 use Rattle.format.specs.Walk as steps
-use Rattle.format.specs.Walk.{WalkCall, advance, skip, walkStep, walkRun, walkEnd, freshWalk}
+use Rattle.format.specs.Walk.{WalkCall, advance, skip, walkRun, walkEnd, freshWalk}
 use Rattle.format.specs.Plain.{sub, plainWalkRun}
 use Rattle.format.specs.Check.{listing}
 use Rattle.format.specs.Buffer.{wordShape, ownReader, bufferCheck}

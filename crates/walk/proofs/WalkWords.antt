@@ -1,12 +1,11 @@
 -- A step over the source's trees is, by list words, the step over the definitions' reader.
 use Prim.Native.Nat.{ℕ, _+_}
-use mathlib.Core.Bool.{Bool, true, false, not, _&&_}
-use mathlib.Core.Path.{_≡_, refl, sym, ap, _∙_}
+use mathlib.Core.Bool.{Bool, true, false}
+use mathlib.Core.Path.{_≡_, refl, ap, _∙_}
 use mathlib.Core.List.{List}
 use lib.Dec.{leb, eqb, ltb}
 use lib.ListN.{length}
-use Rattle.format.specs.Test.{if_then_else_}
-use Rattle.format.specs.Reader.{Shape, Reader, Reply, got, bad, Answer, none, one, refused}
+use Rattle.format.specs.Reader.{Reader, Reply, got, bad, Answer}
 use Rattle.format.specs.Walk.{Walk, WalkCall, advance, skip, walkFits, walkRead, walkStep}
 use Rattle.format.specs.Buffer.{wordShape, ownReader}
 use Rattle.tree.specs.declared.types.TokenTree.{TokenTree}

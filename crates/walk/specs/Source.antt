@@ -1,8 +1,7 @@
 -- A buffer as a reader of the source's trees, and such answers by list words.
-use Prim.Native.Nat.{ℕ, _%_}
+use Prim.Native.Nat.{ℕ}
 use mathlib.Core.Bool.{Bool, _&&_}
 use mathlib.Core.List.{List, []}
-use lib.ListN.{length}
 use lib.Dec.{leb}
 use Rattle.format.specs.Reader.{Shape, Reader, Answer, done, none, one, two, refused}
 use Rattle.format.specs.Tables.{rules, ownTables}

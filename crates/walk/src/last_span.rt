@@ -77,7 +77,8 @@ fn go_on(b: &[u8], trees: u32, parts: &[u32], symbols: &[u32], walk: Walk) -> La
 
 // Of a leaf its span, of a subtree that of its last descendant, of an empty one its closing span.
 pub fn last_span(b: &[u8], trees: u32, parts: &[u32], symbols: &[u32], walk: Walk) -> LastSpan
-    ensures { λ r. ⌜ lastOf r ≡ lastSpan (now (b .entry)) trees (now (parts .entry)) (now (symbols .entry)) (walkOf walk) ⌝ }
+    ensures { λ r. ⌜ lastOf r ≡ lastSpan (now (b .entry)) trees (now (parts .entry)) (now (symbols .entry))
+        (walkOf walk) ⌝ }
 {
     let mut here = walk;
     loop {

@@ -60,7 +60,10 @@ fn refuse(number: u32, tree: u32, walk: Walk) -> Step
 // The walk `trees` trees on.
 fn onward(walk: Walk, tree: TokenTree, trees: u32, next: usize) -> Step
     requires { ⌜ (walk .number + trees < 4294967296) × (trees ≤ walk .left) ⌝ }
-    ensures { λ r. ⌜ stepOf r ≡ (one tree, record { place = next; number = walk .number + trees; left = walk .left - trees }) ⌝ }
+    ensures { λ r. ⌜ stepOf r ≡ (
+      one tree,
+      record { place = next; number = walk .number + trees; left = walk .left - trees },
+    ) ⌝ }
 {
     let then = Walk {
         place: next,
@@ -75,7 +78,8 @@ fn onward(walk: Walk, tree: TokenTree, trees: u32, next: usize) -> Step
 
 // Row 1 or 10, or 0.
 fn walk_row(b: &[u8], trees: u32, parts: &[u32], symbols: &[u32], walk: Walk) -> u32
-    ensures { λ r. ⌜ r ≡ walkRow (treeReader (now (b .entry)) trees (now (parts .entry)) (now (symbols .entry))) (walkOf walk) ⌝ }
+    ensures { λ r. ⌜ r ≡ walkRow (treeReader (now (b .entry)) trees (now (parts .entry)) (now (symbols .entry)))
+        (walkOf walk) ⌝ }
 {
     if !sized(trees, parts, symbols) {
         return 1;

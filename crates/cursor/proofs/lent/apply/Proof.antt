@@ -2,9 +2,6 @@ use borrow.Author.Needs.{needs}
 use Rattle.cursor.proofs.MovesReturns.{apply-cases}
 use Rattle.cursor.proofs.lent.apply.Statement.{statement}
 use Rattle.cursor.proofs.lent.apply.Tie as tie
-use Rattle.cursor.proofs.lent.apply.Reads as reads
-use Rattle.cursor.proofs.lent.apply.Lts as lts
-use Rattle.cursor.proofs.lent.enter.Reads as enter-reads
 
 -- src/lent.rt:54:25
 enum-told : tie.Need-enum-told

@@ -2,10 +2,6 @@ use borrow.Author.Needs.{needs}
 use Rattle.cursor.proofs.MovesReturns.{moves-cases}
 use Rattle.cursor.proofs.lent.bump.Statement.{statement}
 use Rattle.cursor.proofs.lent.bump.Tie as tie
-use Rattle.cursor.proofs.lent.bump.Reads as reads
-use Rattle.cursor.proofs.lent.bump.Lts as lts
-use Rattle.cursor.proofs.lent.apply.Reads as apply-reads
-use Rattle.cursor.proofs.plan.plan_bump.Reads as plan-bump-reads
 
 -- src/lent.rt:68:9
 plan-bump-requires : tie.Need-plan-bump-requires

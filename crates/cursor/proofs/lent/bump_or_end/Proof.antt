@@ -2,10 +2,6 @@ use borrow.Author.Needs.{needs}
 use Rattle.cursor.proofs.MovesReturns.{moves-cases}
 use Rattle.cursor.proofs.lent.bump_or_end.Statement.{statement}
 use Rattle.cursor.proofs.lent.bump_or_end.Tie as tie
-use Rattle.cursor.proofs.lent.bump_or_end.Reads as reads
-use Rattle.cursor.proofs.lent.bump_or_end.Lts as lts
-use Rattle.cursor.proofs.lent.apply.Reads as apply-reads
-use Rattle.cursor.proofs.plan.plan_bump_or_end.Reads as plan-bump-or-end-reads
 
 -- src/lent.rt:112:9
 plan-bump-or-end-requires : tie.Need-plan-bump-or-end-requires

@@ -2,10 +2,6 @@ use borrow.Author.Needs.{needs}
 use Rattle.cursor.proofs.MovesReturns.{moves-cases}
 use Rattle.cursor.proofs.lent.end.Statement.{statement}
 use Rattle.cursor.proofs.lent.end.Tie as tie
-use Rattle.cursor.proofs.lent.end.Reads as reads
-use Rattle.cursor.proofs.lent.end.Lts as lts
-use Rattle.cursor.proofs.lent.apply.Reads as apply-reads
-use Rattle.cursor.proofs.plan.plan_end.Reads as plan-end-reads
 
 -- src/lent.rt:90:9
 plan-end-requires : tie.Need-plan-end-requires

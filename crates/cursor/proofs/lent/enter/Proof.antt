@@ -2,8 +2,6 @@ use borrow.Author.Needs.{needs}
 use Rattle.cursor.proofs.MovesReturns.{apply-cases}
 use Rattle.cursor.proofs.lent.enter.Statement.{statement}
 use Rattle.cursor.proofs.lent.enter.Tie as tie
-use Rattle.cursor.proofs.lent.enter.Reads as reads
-use Rattle.cursor.proofs.lent.enter.Lts as lts
 
 -- src/lent.rt:33:5
 mul-numbers : tie.Need-mul-numbers

@@ -2,12 +2,6 @@ use borrow.Author.Needs.{needs}
 use Rattle.cursor.proofs.LookReturns.{peeks-cases}
 use Rattle.cursor.proofs.look.first.Statement.{statement}
 use Rattle.cursor.proofs.look.first.Tie as tie
-use Rattle.cursor.proofs.look.first.Reads as reads
-use Rattle.cursor.proofs.look.first.Lts as lts
-use Rattle.cursor.proofs.look.no_leaves.Reads as no-leaves-reads
-use Rattle.cursor.proofs.look.refused.Reads as refused-reads
-use Rattle.cursor.proofs.look.second.Reads as second-reads
-use Rattle.decode.proofs.decode.decode.Reads as decode-reads
 
 -- src/look.rt:136:9
 decode-requires : tie.Need-decode-requires

@@ -2,9 +2,6 @@ use borrow.Author.Needs.{needs}
 use Rattle.cursor.proofs.LookReturns.{peeks-cases}
 use Rattle.cursor.proofs.look.no_leaves.Statement.{statement}
 use Rattle.cursor.proofs.look.no_leaves.Tie as tie
-use Rattle.cursor.proofs.look.no_leaves.Reads as reads
-use Rattle.cursor.proofs.look.no_leaves.Lts as lts
-use Rattle.cursor.proofs.look.blank.Reads as blank-reads
 
 -- src/look.rt:99:9
 blank-requires : tie.Need-blank-requires

@@ -2,13 +2,6 @@ use borrow.Author.Needs.{needs}
 use Rattle.cursor.proofs.LookReturns.{peeks-cases}
 use Rattle.cursor.proofs.look.peek_two_leaves.Statement.{statement}
 use Rattle.cursor.proofs.look.peek_two_leaves.Tie as tie
-use Rattle.cursor.proofs.look.peek_two_leaves.Reads as reads
-use Rattle.cursor.proofs.look.peek_two_leaves.Lts as lts
-use Rattle.cursor.proofs.look.first.Reads as first-reads
-use Rattle.cursor.proofs.look.no_leaves.Reads as no-leaves-reads
-use Rattle.cursor.proofs.look.refused.Reads as refused-reads
-use Rattle.cursor.proofs.open.cursor_row.Reads as cursor-row-reads
-use Rattle.cursor.proofs.open.lies_inside.Reads as lies-inside-reads
 
 -- src/look.rt:162:9
 cursor-row-requires : tie.Need-cursor-row-requires

@@ -2,11 +2,6 @@ use borrow.Author.Needs.{needs}
 use Rattle.cursor.proofs.LookReturns.{peeks-cases}
 use Rattle.cursor.proofs.look.second.Statement.{statement}
 use Rattle.cursor.proofs.look.second.Tie as tie
-use Rattle.cursor.proofs.look.second.Reads as reads
-use Rattle.cursor.proofs.look.second.Lts as lts
-use Rattle.cursor.proofs.look.no_leaves.Reads as no-leaves-reads
-use Rattle.cursor.proofs.look.refused.Reads as refused-reads
-use Rattle.decode.proofs.decode.decode.Reads as decode-reads
 
 -- src/look.rt:113:42
 add-decode : tie.Need-add-decode

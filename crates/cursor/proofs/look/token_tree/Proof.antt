@@ -2,12 +2,6 @@ use borrow.Author.Needs.{needs}
 use Rattle.cursor.proofs.LookReturns.{tells-cases}
 use Rattle.cursor.proofs.look.token_tree.Statement.{statement}
 use Rattle.cursor.proofs.look.token_tree.Tie as tie
-use Rattle.cursor.proofs.look.token_tree.Reads as reads
-use Rattle.cursor.proofs.look.token_tree.Lts as lts
-use Rattle.cursor.proofs.look.refused.Reads as refused-reads
-use Rattle.cursor.proofs.look.tree_here.Reads as tree-here-reads
-use Rattle.cursor.proofs.open.cursor_row.Reads as cursor-row-reads
-use Rattle.cursor.proofs.open.lies_inside.Reads as lies-inside-reads
 
 -- src/look.rt:67:9
 cursor-row-requires : tie.Need-cursor-row-requires

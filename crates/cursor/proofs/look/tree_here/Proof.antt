@@ -2,10 +2,6 @@ use borrow.Author.Needs.{needs}
 use Rattle.cursor.proofs.LookReturns.{tells-cases}
 use Rattle.cursor.proofs.look.tree_here.Statement.{statement}
 use Rattle.cursor.proofs.look.tree_here.Tie as tie
-use Rattle.cursor.proofs.look.tree_here.Reads as reads
-use Rattle.cursor.proofs.look.tree_here.Lts as lts
-use Rattle.cursor.proofs.look.refused.Reads as refused-reads
-use Rattle.decode.proofs.decode.decode.Reads as decode-reads
 
 -- src/look.rt:44:9
 decode-requires : tie.Need-decode-requires

@@ -2,10 +2,6 @@ use borrow.Author.Needs.{needs}
 use Rattle.cursor.proofs.OpenReturns.{last-cases}
 use Rattle.cursor.proofs.open.closes_last.Statement.{statement}
 use Rattle.cursor.proofs.open.closes_last.Tie as tie
-use Rattle.cursor.proofs.open.closes_last.Reads as reads
-use Rattle.cursor.proofs.open.closes_last.Lts as lts
-use Rattle.cursor.proofs.open.end_of.Reads as end-of-reads
-use Rattle.cursor.proofs.open.wide.Reads as wide-reads
 
 -- src/open.rt:104:9
 returns : tie.Need-returns

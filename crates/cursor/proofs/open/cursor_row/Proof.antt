@@ -2,10 +2,6 @@ use borrow.Author.Needs.{needs}
 use Rattle.cursor.proofs.OpenReturns.{row-cases}
 use Rattle.cursor.proofs.open.cursor_row.Statement.{statement}
 use Rattle.cursor.proofs.open.cursor_row.Tie as tie
-use Rattle.cursor.proofs.open.cursor_row.Reads as reads
-use Rattle.cursor.proofs.open.cursor_row.Lts as lts
-use Rattle.cursor.proofs.open.nested.Reads as nested-reads
-use Rattle.walk.proofs.sizes.sized.Reads as sized-reads
 
 -- src/open.rt:80:9
 sized-requires : tie.Need-sized-requires

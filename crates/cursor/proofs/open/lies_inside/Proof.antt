@@ -2,10 +2,6 @@ use borrow.Author.Needs.{needs}
 use Rattle.cursor.proofs.OpenReturns.{last-cases}
 use Rattle.cursor.proofs.open.lies_inside.Statement.{statement}
 use Rattle.cursor.proofs.open.lies_inside.Tie as tie
-use Rattle.cursor.proofs.open.lies_inside.Reads as reads
-use Rattle.cursor.proofs.open.lies_inside.Lts as lts
-use Rattle.cursor.proofs.open.end_of.Reads as end-of-reads
-use Rattle.cursor.proofs.open.wide.Reads as wide-reads
 
 -- src/open.rt:125:13
 wide-requires : tie.Need-wide-requires

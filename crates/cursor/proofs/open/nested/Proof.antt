@@ -6,10 +6,6 @@ use Rattle.cursor.specs.Open.{opened}
 use Rattle.cursor.proofs.OpenReturns.{nested-cases}
 use Rattle.cursor.proofs.open.nested.Statement.{statement}
 use Rattle.cursor.proofs.open.nested.Tie as tie
-use Rattle.cursor.proofs.open.nested.Reads as reads
-use Rattle.cursor.proofs.open.nested.Lts as lts
-use Rattle.cursor.proofs.open.end_of.Reads as end-of-reads
-use Rattle.cursor.proofs.open.wide.Reads as wide-reads
 
 abbrev Inv-loop : tie.InvT-loop
 Inv-loop numbers counts places left₀ from₀ place₀ to₀ left from place to =

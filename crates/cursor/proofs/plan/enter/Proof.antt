@@ -2,10 +2,6 @@ use borrow.Author.Needs.{needs}
 use Rattle.cursor.proofs.PlanReturns.{enter-cases}
 use Rattle.cursor.proofs.plan.enter.Statement.{statement}
 use Rattle.cursor.proofs.plan.enter.Tie as tie
-use Rattle.cursor.proofs.plan.enter.Reads as reads
-use Rattle.cursor.proofs.plan.enter.Lts as lts
-use Rattle.cursor.proofs.plan.done.Reads as done-reads
-use Rattle.cursor.proofs.plan.refuse.Reads as refuse-reads
 
 -- src/plan.rt:75:36
 enum-told : tie.Need-enum-told

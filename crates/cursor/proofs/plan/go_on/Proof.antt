@@ -2,12 +2,6 @@ use borrow.Author.Needs.{needs}
 use Rattle.cursor.proofs.PlanReturns.{go-cases}
 use Rattle.cursor.proofs.plan.go_on.Statement.{statement}
 use Rattle.cursor.proofs.plan.go_on.Tie as tie
-use Rattle.cursor.proofs.plan.go_on.Reads as reads
-use Rattle.cursor.proofs.plan.go_on.Lts as lts
-use Rattle.cursor.proofs.plan.done.Reads as done-reads
-use Rattle.cursor.proofs.plan.enter.Reads as enter-reads
-use Rattle.cursor.proofs.plan.refuse.Reads as refuse-reads
-use Rattle.decode.proofs.decode.decode.Reads as decode-reads
 
 -- src/plan.rt:95:9
 done-requires : tie.Need-done-requires

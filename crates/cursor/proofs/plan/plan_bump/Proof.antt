@@ -2,12 +2,6 @@ use borrow.Author.Needs.{needs}
 use Rattle.cursor.proofs.PlanReturns.{plan-cases}
 use Rattle.cursor.proofs.plan.plan_bump.Statement.{statement}
 use Rattle.cursor.proofs.plan.plan_bump.Tie as tie
-use Rattle.cursor.proofs.plan.plan_bump.Reads as reads
-use Rattle.cursor.proofs.plan.plan_bump.Lts as lts
-use Rattle.cursor.proofs.open.closes_last.Reads as closes-last-reads
-use Rattle.cursor.proofs.open.cursor_row.Reads as cursor-row-reads
-use Rattle.cursor.proofs.plan.go_on.Reads as go-on-reads
-use Rattle.cursor.proofs.plan.refuse.Reads as refuse-reads
 
 -- src/plan.rt:159:9
 cursor-row-requires : tie.Need-cursor-row-requires

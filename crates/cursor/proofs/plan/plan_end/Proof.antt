@@ -2,12 +2,6 @@ use borrow.Author.Needs.{needs}
 use Rattle.cursor.proofs.PlanReturns.{plan-cases}
 use Rattle.cursor.proofs.plan.plan_end.Statement.{statement}
 use Rattle.cursor.proofs.plan.plan_end.Tie as tie
-use Rattle.cursor.proofs.plan.plan_end.Reads as reads
-use Rattle.cursor.proofs.plan.plan_end.Lts as lts
-use Rattle.cursor.proofs.open.closes_last.Reads as closes-last-reads
-use Rattle.cursor.proofs.open.cursor_row.Reads as cursor-row-reads
-use Rattle.cursor.proofs.plan.refuse.Reads as refuse-reads
-use Rattle.cursor.proofs.plan.shut_last.Reads as shut-last-reads
 
 -- src/plan.rt:182:9
 cursor-row-requires : tie.Need-cursor-row-requires

@@ -2,9 +2,6 @@ use borrow.Author.Needs.{needs}
 use Rattle.cursor.proofs.PlanReturns.{shut-cases}
 use Rattle.cursor.proofs.plan.shut.Statement.{statement}
 use Rattle.cursor.proofs.plan.shut.Tie as tie
-use Rattle.cursor.proofs.plan.shut.Reads as reads
-use Rattle.cursor.proofs.plan.shut.Lts as lts
-use Rattle.cursor.proofs.plan.refuse.Reads as refuse-reads
 
 -- src/plan.rt:110:31
 enum-told : tie.Need-enum-told

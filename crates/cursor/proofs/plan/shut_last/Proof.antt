@@ -2,11 +2,6 @@ use borrow.Author.Needs.{needs}
 use Rattle.cursor.proofs.PlanReturns.{shut-cases}
 use Rattle.cursor.proofs.plan.shut_last.Statement.{statement}
 use Rattle.cursor.proofs.plan.shut_last.Tie as tie
-use Rattle.cursor.proofs.plan.shut_last.Reads as reads
-use Rattle.cursor.proofs.plan.shut_last.Lts as lts
-use Rattle.cursor.proofs.plan.refuse.Reads as refuse-reads
-use Rattle.cursor.proofs.plan.shut.Reads as shut-reads
-use Rattle.decode.proofs.decode.decode.Reads as decode-reads
 
 -- src/plan.rt:137:16
 sub-last : tie.Need-sub-last

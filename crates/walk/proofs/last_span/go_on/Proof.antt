@@ -2,10 +2,6 @@ use borrow.Author.Needs.{needs}
 use Rattle.walk.proofs.LastReturns.{last-cases}
 use Rattle.walk.proofs.last_span.go_on.Statement.{statement}
 use Rattle.walk.proofs.last_span.go_on.Tie as tie
-use Rattle.walk.proofs.last_span.go_on.Reads as reads
-use Rattle.walk.proofs.last_span.go_on.Lts as lts
-use Rattle.walk.proofs.last_span.into.Reads as into-reads
-use Rattle.walk.proofs.walk.advance_skip_subtree.Reads as advance-skip-subtree-reads
 
 -- src/last_span.rt:63:9
 advance-skip-subtree-requires : tie.Need-advance-skip-subtree-requires

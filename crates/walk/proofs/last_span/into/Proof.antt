@@ -2,10 +2,6 @@ use borrow.Author.Needs.{needs}
 use Rattle.walk.proofs.LastReturns.{last-cases}
 use Rattle.walk.proofs.last_span.into.Statement.{statement}
 use Rattle.walk.proofs.last_span.into.Tie as tie
-use Rattle.walk.proofs.last_span.into.Reads as reads
-use Rattle.walk.proofs.last_span.into.Lts as lts
-use Rattle.walk.proofs.last_span.leaf_span.Reads as leaf-span-reads
-use Rattle.walk.proofs.walk.advance.Reads as advance-reads
 
 -- src/last_span.rt:45:25
 enum-known-tree : tie.Need-enum-known-tree

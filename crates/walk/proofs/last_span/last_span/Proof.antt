@@ -5,9 +5,6 @@ use Rattle.walk.specs.Walk.{walkOf}
 use Rattle.walk.proofs.LastReturns.{loop-cases}
 use Rattle.walk.proofs.last_span.last_span.Statement.{statement}
 use Rattle.walk.proofs.last_span.last_span.Tie as tie
-use Rattle.walk.proofs.last_span.last_span.Reads as reads
-use Rattle.walk.proofs.last_span.last_span.Lts as lts
-use Rattle.walk.proofs.last_span.go_on.Reads as go-on-reads
 
 abbrev Inv-loop : tie.InvT-loop
 Inv-loop b trees parts symbols here₀ here = lastSpan b trees parts symbols (walkOf here₀) ≡ lastSpan b trees parts symbols (walkOf here)

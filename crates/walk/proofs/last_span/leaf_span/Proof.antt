@@ -2,8 +2,6 @@ use borrow.Author.Needs.{needs}
 use Rattle.walk.proofs.LastReturns.{leaf-cases}
 use Rattle.walk.proofs.last_span.leaf_span.Statement.{statement}
 use Rattle.walk.proofs.last_span.leaf_span.Tie as tie
-use Rattle.walk.proofs.last_span.leaf_span.Reads as reads
-use Rattle.walk.proofs.last_span.leaf_span.Lts as lts
 
 -- src/last_span.rt:33:21
 enum-known-leaf : tie.Need-enum-known-leaf

@@ -2,8 +2,6 @@ use borrow.Author.Needs.{needs}
 use Rattle.walk.proofs.SizesReturns.{sized-cases}
 use Rattle.walk.proofs.sizes.sized.Statement.{statement}
 use Rattle.walk.proofs.sizes.sized.Tie as tie
-use Rattle.walk.proofs.sizes.sized.Reads as reads
-use Rattle.walk.proofs.sizes.sized.Lts as lts
 
 -- src/sizes.rt:16:9
 returns : tie.Need-returns

@@ -2,10 +2,6 @@ use borrow.Author.Needs.{needs}
 use Rattle.walk.proofs.WalkReturns.{step-cases}
 use Rattle.walk.proofs.walk.advance.Statement.{statement}
 use Rattle.walk.proofs.walk.advance.Tie as tie
-use Rattle.walk.proofs.walk.advance.Reads as reads
-use Rattle.walk.proofs.walk.advance.Lts as lts
-use Rattle.walk.proofs.walk.begin.Reads as begin-reads
-use Rattle.walk.proofs.walk.onward.Reads as onward-reads
 
 -- src/walk.rt:124:9
 begin-requires : tie.Need-begin-requires

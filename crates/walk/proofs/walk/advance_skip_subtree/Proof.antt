@@ -2,10 +2,6 @@ use borrow.Author.Needs.{needs}
 use Rattle.walk.proofs.WalkReturns.{step-cases}
 use Rattle.walk.proofs.walk.advance_skip_subtree.Statement.{statement}
 use Rattle.walk.proofs.walk.advance_skip_subtree.Tie as tie
-use Rattle.walk.proofs.walk.advance_skip_subtree.Reads as reads
-use Rattle.walk.proofs.walk.advance_skip_subtree.Lts as lts
-use Rattle.walk.proofs.walk.begin.Reads as begin-reads
-use Rattle.walk.proofs.walk.past.Reads as past-reads
 
 -- src/walk.rt:160:9
 begin-requires : tie.Need-begin-requires

@@ -2,11 +2,6 @@ use borrow.Author.Needs.{needs}
 use Rattle.walk.proofs.WalkReturns.{walk-cases}
 use Rattle.walk.proofs.walk.begin.Statement.{statement}
 use Rattle.walk.proofs.walk.begin.Tie as tie
-use Rattle.walk.proofs.walk.begin.Reads as reads
-use Rattle.walk.proofs.walk.begin.Lts as lts
-use Rattle.decode.proofs.decode.decode.Reads as decode-reads
-use Rattle.walk.proofs.walk.refuse.Reads as refuse-reads
-use Rattle.walk.proofs.walk.walk_row.Reads as walk-row-reads
 
 -- src/walk.rt:102:9
 walk-row-requires : tie.Need-walk-row-requires

@@ -2,8 +2,6 @@ use borrow.Author.Needs.{needs}
 use Rattle.walk.proofs.WalkReturns.{walk-cases}
 use Rattle.walk.proofs.walk.onward.Statement.{statement}
 use Rattle.walk.proofs.walk.onward.Tie as tie
-use Rattle.walk.proofs.walk.onward.Reads as reads
-use Rattle.walk.proofs.walk.onward.Lts as lts
 
 -- src/walk.rt:65:17
 add-t6 : tie.Need-add-t6

@@ -2,10 +2,6 @@ use borrow.Author.Needs.{needs}
 use Rattle.walk.proofs.WalkReturns.{past-cases}
 use Rattle.walk.proofs.walk.past.Statement.{statement}
 use Rattle.walk.proofs.walk.past.Tie as tie
-use Rattle.walk.proofs.walk.past.Reads as reads
-use Rattle.walk.proofs.walk.past.Lts as lts
-use Rattle.walk.proofs.walk.onward.Reads as onward-reads
-use Rattle.walk.proofs.walk.past_subtree.Reads as past-subtree-reads
 
 -- src/walk.rt:160:31
 enum-told : tie.Need-enum-told

@@ -2,11 +2,6 @@ use borrow.Author.Needs.{needs}
 use Rattle.walk.proofs.WalkReturns.{past-cases}
 use Rattle.walk.proofs.walk.past_subtree.Statement.{statement}
 use Rattle.walk.proofs.walk.past_subtree.Tie as tie
-use Rattle.walk.proofs.walk.past_subtree.Reads as reads
-use Rattle.walk.proofs.walk.past_subtree.Lts as lts
-use Rattle.tree.proofs.raw.place.Reads as place-reads
-use Rattle.walk.proofs.walk.onward.Reads as onward-reads
-use Rattle.walk.proofs.walk.refuse.Reads as refuse-reads
 
 -- src/walk.rt:142:9
 refuse-requires : tie.Need-refuse-requires

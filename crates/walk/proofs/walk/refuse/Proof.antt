@@ -2,8 +2,6 @@ use borrow.Author.Needs.{needs}
 use Rattle.walk.proofs.WalkReturns.{walk-cases}
 use Rattle.walk.proofs.walk.refuse.Statement.{statement}
 use Rattle.walk.proofs.walk.refuse.Tie as tie
-use Rattle.walk.proofs.walk.refuse.Reads as reads
-use Rattle.walk.proofs.walk.refuse.Lts as lts
 
 -- src/walk.rt:45:1
 returns : tie.Need-returns

@@ -2,9 +2,6 @@ use borrow.Author.Needs.{needs}
 use Rattle.walk.proofs.WalkReturns.{walk-cases}
 use Rattle.walk.proofs.walk.walk_row.Statement.{statement}
 use Rattle.walk.proofs.walk.walk_row.Tie as tie
-use Rattle.walk.proofs.walk.walk_row.Reads as reads
-use Rattle.walk.proofs.walk.walk_row.Lts as lts
-use Rattle.walk.proofs.sizes.sized.Reads as sized-reads
 
 -- src/walk.rt:78:9
 sized-requires : tie.Need-sized-requires

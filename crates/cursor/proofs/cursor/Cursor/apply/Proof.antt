@@ -2,9 +2,6 @@ use borrow.Author.Needs.{needs}
 use Rattle.cursor.proofs.MovesReturns.{next-cases}
 use Rattle.cursor.proofs.cursor.Cursor.apply.Statement.{statement}
 use Rattle.cursor.proofs.cursor.Cursor.apply.Tie as tie
-use Rattle.cursor.proofs.cursor.Cursor.apply.Reads as reads
-use Rattle.cursor.proofs.cursor.Cursor.apply.Lts as lts
-use Rattle.cursor.proofs.cursor.Cursor.enter.Reads as enter-reads
 
 -- src/cursor.rt:80:29
 enum-told : tie.Need-enum-told

@@ -2,11 +2,6 @@ use borrow.Author.Needs.{needs}
 use Rattle.cursor.proofs.MovesReturns.{value-cases}
 use Rattle.cursor.proofs.cursor.Cursor.bump.Statement.{statement}
 use Rattle.cursor.proofs.cursor.Cursor.bump.Tie as tie
-use Rattle.cursor.proofs.cursor.Cursor.bump.Reads as reads
-use Rattle.cursor.proofs.cursor.Cursor.bump.Lts as lts
-use Rattle.cursor.proofs.cursor.Cursor.apply.Reads as apply-reads
-use Rattle.cursor.proofs.cursor.Cursor.at.Reads as at-reads
-use Rattle.cursor.proofs.plan.plan_bump.Reads as plan-bump-reads
 
 -- src/cursor.rt:97:56
 at-requires : tie.Need-at-requires

@@ -2,11 +2,6 @@ use borrow.Author.Needs.{needs}
 use Rattle.cursor.proofs.MovesReturns.{value-cases}
 use Rattle.cursor.proofs.cursor.Cursor.bump_or_end.Statement.{statement}
 use Rattle.cursor.proofs.cursor.Cursor.bump_or_end.Tie as tie
-use Rattle.cursor.proofs.cursor.Cursor.bump_or_end.Reads as reads
-use Rattle.cursor.proofs.cursor.Cursor.bump_or_end.Lts as lts
-use Rattle.cursor.proofs.cursor.Cursor.apply.Reads as apply-reads
-use Rattle.cursor.proofs.cursor.Cursor.at.Reads as at-reads
-use Rattle.cursor.proofs.plan.plan_bump_or_end.Reads as plan-bump-or-end-reads
 
 -- src/cursor.rt:123:63
 at-requires : tie.Need-at-requires

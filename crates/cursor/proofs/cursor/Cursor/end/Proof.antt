@@ -2,11 +2,6 @@ use borrow.Author.Needs.{needs}
 use Rattle.cursor.proofs.MovesReturns.{value-cases}
 use Rattle.cursor.proofs.cursor.Cursor.end.Statement.{statement}
 use Rattle.cursor.proofs.cursor.Cursor.end.Tie as tie
-use Rattle.cursor.proofs.cursor.Cursor.end.Reads as reads
-use Rattle.cursor.proofs.cursor.Cursor.end.Lts as lts
-use Rattle.cursor.proofs.cursor.Cursor.apply.Reads as apply-reads
-use Rattle.cursor.proofs.cursor.Cursor.at.Reads as at-reads
-use Rattle.cursor.proofs.plan.plan_end.Reads as plan-end-reads
 
 -- src/cursor.rt:110:55
 at-requires : tie.Need-at-requires

@@ -2,8 +2,6 @@ use borrow.Author.Needs.{needs}
 use Rattle.cursor.proofs.MovesReturns.{next-cases}
 use Rattle.cursor.proofs.cursor.Cursor.enter.Statement.{statement}
 use Rattle.cursor.proofs.cursor.Cursor.enter.Tie as tie
-use Rattle.cursor.proofs.cursor.Cursor.enter.Reads as reads
-use Rattle.cursor.proofs.cursor.Cursor.enter.Lts as lts
 
 -- src/cursor.rt:66:9
 mul-self : tie.Need-mul-self

@@ -2,10 +2,6 @@ use borrow.Author.Needs.{needs}
 use Rattle.cursor.proofs.LookReturns.{value-looks}
 use Rattle.cursor.proofs.cursor.Cursor.peek_two_leaves.Statement.{statement}
 use Rattle.cursor.proofs.cursor.Cursor.peek_two_leaves.Tie as tie
-use Rattle.cursor.proofs.cursor.Cursor.peek_two_leaves.Reads as reads
-use Rattle.cursor.proofs.cursor.Cursor.peek_two_leaves.Lts as lts
-use Rattle.cursor.proofs.cursor.Cursor.at.Reads as at-reads
-use Rattle.cursor.proofs.look.peek_two_leaves.Reads as peek-two-leaves-reads
 
 -- src/cursor.rt:146:51
 at-requires : tie.Need-at-requires

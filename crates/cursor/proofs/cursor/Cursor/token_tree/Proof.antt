@@ -2,10 +2,6 @@ use borrow.Author.Needs.{needs}
 use Rattle.cursor.proofs.LookReturns.{value-looks}
 use Rattle.cursor.proofs.cursor.Cursor.token_tree.Statement.{statement}
 use Rattle.cursor.proofs.cursor.Cursor.token_tree.Tie as tie
-use Rattle.cursor.proofs.cursor.Cursor.token_tree.Reads as reads
-use Rattle.cursor.proofs.cursor.Cursor.token_tree.Lts as lts
-use Rattle.cursor.proofs.cursor.Cursor.at.Reads as at-reads
-use Rattle.cursor.proofs.look.token_tree.Reads as token-tree-reads
 
 -- src/cursor.rt:140:46
 at-requires : tie.Need-at-requires
