@@ -141,7 +141,8 @@ impl Cursor {
     }
 
     pub fn bump_or_end(self, b: &[u8], trees: u32, parts: &[u32], symbols: &[u32]) -> Next
-        ensures { λ r. ⌜ Stepped (now (b .entry)) trees (now (parts .entry)) (now (symbols .entry)) bumpOrEnd self r ⌝ }
+        ensures { λ r. ⌜ Stepped (now (b .entry)) trees (now (parts .entry)) (now (symbols .entry)) bumpOrEnd self
+            r ⌝ }
     {
         let plan = plan_bump_or_end(
             b,

@@ -117,7 +117,8 @@ pub fn lies_inside<'a>(
     counts: &'a [u32; 256],
 ) -> bool
     requires { ⌜ at .depth ≤ 256 ⌝ }
-    ensures { λ r. ⌜ r ≡ inside trees (at .number + ahead) (now (numbers .entry)) (now (counts .entry)) (at .depth) ⌝ }
+    ensures { λ r. ⌜ r ≡ inside trees (at .number + ahead) (now (numbers .entry)) (now (counts .entry))
+        (at .depth) ⌝ }
 {
     let n = wide(at.number) + wide(ahead);
     if wide(trees) <= n {

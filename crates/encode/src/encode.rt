@@ -185,7 +185,8 @@ fn put_short(out: &mut [u8], at: usize, p: RawLiteral)
 }
 
 fn put_raw(out: &mut [u8], at: usize, p: RawLiteral)
-    requires { ⌜ LiteralReady p × (at + spanSize (spanOf (p .span)) + 3 + symbolSize (p .symbol) ≤ length (now out)) ⌝ }
+    requires { ⌜ LiteralReady p × (at + spanSize (spanOf (p .span)) + 3 + symbolSize (p .symbol) ≤ length
+        (now out)) ⌝ }
     ensures { λ _. ⌜
         now (out .exit) ≡ put (now (out .entry)) at
         (join (spanBytes 0 (spanOf (p .span)) ∷ byte (7 + 8 * p .kind) ∷ byte (p .«raw_count») ∷ byte (p .«suffix_len»)
@@ -198,7 +199,8 @@ fn put_raw(out: &mut [u8], at: usize, p: RawLiteral)
 }
 
 fn put_long(out: &mut [u8], at: usize, p: RawLiteral)
-    requires { ⌜ LiteralReady p × (at + spanSize (spanOf (p .span)) + 2 + symbolSize (p .symbol) ≤ length (now out)) ⌝ }
+    requires { ⌜ LiteralReady p × (at + spanSize (spanOf (p .span)) + 2 + symbolSize (p .symbol) ≤ length
+        (now out)) ⌝ }
     ensures { λ _. ⌜
         now (out .exit) ≡ put (now (out .entry)) at
         (join (spanBytes 0 (spanOf (p .span)) ∷ byte (7 + 8 * p .kind) ∷ byte (p .«suffix_len»)

@@ -11,7 +11,8 @@ ghost use Rattle.export.specs.Replies.{verdictCode};
 // The check by the numbers of parts and symbols.
 #[no_mangle]
 pub extern "C" fn tt_check(b: &[u8], trees: u32, parts: usize, symbols: usize) -> u64
-    ensures { λ r. ⌜ r ≡ verdictCode (verdictAnswer (checked rawShape (sizeReader (now (b .entry)) trees parts symbols))) ⌝ }
+    ensures { λ r. ⌜ r ≡ verdictCode (verdictAnswer
+        (checked rawShape (sizeReader (now (b .entry)) trees parts symbols))) ⌝ }
 {
     let v = check(b, trees, parts, symbols);
     verdict_code(v)

@@ -29,7 +29,8 @@ pub extern "C" fn tt_encode_tree(
     symbol_index: u32,
     children: u32,
 ) -> u64
-    ensures { λ r. ⌜ TreeStored (now (out .entry)) at (now (tree .entry)) «open_index» «close_index» «symbol_index» children r (now (out .exit)) ⌝ }
+    ensures { λ r. ⌜ TreeStored (now (out .entry)) at (now (tree .entry)) «open_index» «close_index» «symbol_index»
+        children r (now (out .exit)) ⌝ }
 {
     if !word_fields(tree, 0) {
         return 9223372036854775810;
@@ -54,7 +55,10 @@ pub extern "C" fn tt_encode_top_subtree(
     kind: u32,
     children: u32,
 ) -> u64
-    ensures { λ r. ⌜ RootStored (now (out .entry)) at (record { index = «open_index»; start = «open_start»; len = «open_len» }) (record { index = «close_index»; start = «close_start»; len = «close_len» }) len kind children r (now (out .exit)) ⌝ }
+    ensures { λ r. ⌜ RootStored (now (out .entry)) at
+        (record { index = «open_index»; start = «open_start»; len = «open_len» })
+        (record { index = «close_index»; start = «close_start»; len = «close_len» }) len kind children r
+        (now (out .exit)) ⌝ }
 {
     let opening = PackedSpan {
         index: open_index,
@@ -111,7 +115,8 @@ pub extern "C" fn tt_decode_tree(
     at: usize,
     words: &mut [u32],
 ) -> u64
-    ensures { λ r. ⌜ TreeFound (now (b .entry)) (now (parts .entry)) (now (symbols .entry)) n at (now (words .entry)) r (now (words .exit)) ⌝ }
+    ensures { λ r. ⌜ TreeFound (now (b .entry)) (now (parts .entry)) (now (symbols .entry)) n at
+        (now (words .entry)) r (now (words .exit)) ⌝ }
 {
     if words.len() < 14 {
         return 9223372036854775814;

@@ -65,7 +65,8 @@ fn next_subtree(l: &[u32], from: usize) -> usize
 // How many of the open subtrees, the outermost first, end after tree n.
 fn still_open(ends: &[u32], depth: usize, n: usize) -> usize
     requires { ⌜ depth ≤ length (now ends) ⌝ }
-    ensures { λ r. ⌜ (r ≤ depth) × (openEnds r (now (ends .entry)) ≡ stillOpen n (openEnds depth (now (ends .entry)))) ⌝ }
+    ensures { λ r. ⌜ (r ≤ depth) × (openEnds r (now (ends .entry)) ≡ stillOpen n
+        (openEnds depth (now (ends .entry)))) ⌝ }
 {
     let mut d = depth;
     while 0 < d {

@@ -180,7 +180,8 @@ fn heavy_third(span: PackedSpan) -> u32
 
 fn pack_small(out: &mut [u8], at: usize, span: PackedSpan, extra: u32) -> Packed
     requires { ⌜ extra ≤ 3 ⌝ }
-    ensures { λ r. ⌜ Stored (now (out .entry)) at (wordBytes (firstWord extra 0 (spanOf span))) r (now (out .exit)) ⌝ }
+    ensures { λ r. ⌜ Stored (now (out .entry)) at (wordBytes (firstWord extra 0 (spanOf span))) r
+        (now (out .exit)) ⌝ }
 {
     if room(out.len(), at) < 4 {
         return Packed::Refused(6);

@@ -65,7 +65,8 @@ fn next_slot(s: usize, slots: usize) -> usize
 fn look(t: &[u32], layout: Layout, base: usize, slots: &[u32], k: Key, start: usize) -> Looked
     requires { ⌜ start < length (now slots) ⌝ }
     requires { ⌜ Within (now t) layout base (now slots) ⌝ }
-    ensures { λ r. ⌜ r ≡ probeFor (shift (keyAt (now (t .entry)) layout) base) k (now (slots .entry)) start (length (now (slots .entry))) ⌝ }
+    ensures { λ r. ⌜ r ≡ probeFor (shift (keyAt (now (t .entry)) layout) base) k (now (slots .entry)) start
+        (length (now (slots .entry))) ⌝ }
 {
     let mut s = start;
     let mut left = slots.len();

@@ -1,7 +1,7 @@
 // The first places of a list's parts and symbols in their tables.
-pub mod closes;
-pub mod index;
-pub mod key;
+mod closes;
+mod index;
+mod key;
 pub mod resolve;
-pub mod stream;
-pub mod whole;
+mod stream;
+mod whole;

@@ -41,8 +41,10 @@ fn build_one(t: &[u32], table: Layout, n: usize, slots: &mut [u32])
 
 // Indexes the tables that are one portion of their slots, for any number of calls of resolve.
 pub fn build(parts: &[u32], symbols: &[u32], part_slots: &mut [u32], symbol_slots: &mut [u32])
-    requires { ⌜ Roomy (length (now parts)) (length (now symbols)) (length (now «part_slots»)) (length (now «symbol_slots»)) ⌝ }
-    ensures { λ _. ⌜ Indexed (now (parts .entry)) (now (symbols .entry)) (now («part_slots» .exit)) (now («symbol_slots» .exit)) ⌝ }
+    requires { ⌜ Roomy (length (now parts)) (length (now symbols)) (length (now «part_slots»))
+        (length (now «symbol_slots»)) ⌝ }
+    ensures { λ _. ⌜ Indexed (now (parts .entry)) (now (symbols .entry)) (now («part_slots» .exit))
+        (now («symbol_slots» .exit)) ⌝ }
 {
     let n = below_two(parts);
     build_one(parts, Layout::Part, n, part_slots);
@@ -115,7 +117,8 @@ fn stream_symbols(
 )
     requires { ⌜ (length (now symbols) ≤ 1048576) × (from + m ≤ length (now l) / 13) × (m ≤ length (now syms)) ⌝ }
     requires { ⌜ (0 < length (now slots)) × (length (now slots) ≤ 1048576) ⌝ }
-    ensures { λ _. ⌜ Placed (now (symbols .entry)) Symbol (length (now (symbols .entry))) (now (l .entry)) Name from m (now (syms .exit)) ⌝ }
+    ensures { λ _. ⌜ Placed (now (symbols .entry)) Symbol (length (now (symbols .entry))) (now (l .entry)) Name from
+        m (now (syms .exit)) ⌝ }
 {
     place_run(
         symbols,
@@ -144,10 +147,12 @@ fn stream(
     closes: &mut [u32],
     syms: &mut [u32],
 )
-    requires { ⌜ Roomy (length (now parts)) (length (now symbols)) (length (now «part_slots»)) (length (now «symbol_slots»)) ⌝ }
+    requires { ⌜ Roomy (length (now parts)) (length (now symbols)) (length (now «part_slots»))
+        (length (now «symbol_slots»)) ⌝ }
     requires { ⌜ (g ≡ length (now parts) / 3 - 2) × (from + m ≤ length (now l) / 13) ⌝ }
     requires { ⌜ (m ≤ length (now opens)) × (m ≤ length (now closes)) × (m ≤ length (now syms)) ⌝ }
-    ensures { λ _. ⌜ Streamed (now (parts .entry)) (now (symbols .entry)) (now (l .entry)) g from m (now (opens .exit)) (now (closes .exit)) (now (syms .exit)) ⌝ }
+    ensures { λ _. ⌜ Streamed (now (parts .entry)) (now (symbols .entry)) (now (l .entry)) g from m
+        (now (opens .exit)) (now (closes .exit)) (now (syms .exit)) ⌝ }
 {
     stream_parts(l, parts, g, from, m, part_slots, opens, closes);
     stream_symbols(l, symbols, from, m, symbol_slots, syms);
@@ -164,11 +169,15 @@ fn resolve_stream(
     closes: &mut [u32],
     syms: &mut [u32],
 )
-    requires { ⌜ Roomy (length (now parts)) (length (now symbols)) (length (now «part_slots»)) (length (now «symbol_slots»)) ⌝ }
+    requires { ⌜ Roomy (length (now parts)) (length (now symbols)) (length (now «part_slots»))
+        (length (now «symbol_slots»)) ⌝ }
     requires { ⌜ Indexed (now parts) (now symbols) (now «part_slots») (now «symbol_slots») ⌝ }
-    requires { ⌜ (1 ≤ from) × (length (now closes) ≡ length (now opens)) × (length (now syms) ≡ length (now opens)) ⌝ }
-    ensures { λ _. ⌜ Resolved (now (parts .entry)) (now (symbols .entry)) (now (l .entry)) from (length (now (opens .entry))) (now (opens .exit)) (now (closes .exit)) (now (syms .exit)) ⌝ }
-    ensures { λ _. ⌜ Indexed (now (parts .entry)) (now (symbols .entry)) (now («part_slots» .exit)) (now («symbol_slots» .exit)) ⌝ }
+    requires { ⌜ (1 ≤ from) × (length (now closes) ≡ length (now opens)) ×
+        (length (now syms) ≡ length (now opens)) ⌝ }
+    ensures { λ _. ⌜ Resolved (now (parts .entry)) (now (symbols .entry)) (now (l .entry)) from
+        (length (now (opens .entry))) (now (opens .exit)) (now (closes .exit)) (now (syms .exit)) ⌝ }
+    ensures { λ _. ⌜ Indexed (now (parts .entry)) (now (symbols .entry)) (now («part_slots» .exit))
+        (now («symbol_slots» .exit)) ⌝ }
 {
     let k = l.len() / 13;
     if k <= from {
@@ -204,11 +213,15 @@ pub fn resolve(
     closes: &mut [u32],
     syms: &mut [u32],
 )
-    requires { ⌜ Roomy (length (now parts)) (length (now symbols)) (length (now «part_slots»)) (length (now «symbol_slots»)) ⌝ }
+    requires { ⌜ Roomy (length (now parts)) (length (now symbols)) (length (now «part_slots»))
+        (length (now «symbol_slots»)) ⌝ }
     requires { ⌜ Indexed (now parts) (now symbols) (now «part_slots») (now «symbol_slots») ⌝ }
-    requires { ⌜ (1 ≤ from) × (length (now closes) ≡ length (now opens)) × (length (now syms) ≡ length (now opens)) ⌝ }
-    ensures { λ _. ⌜ Resolved (now (parts .entry)) (now (symbols .entry)) (now (l .entry)) from (length (now (opens .entry))) (now (opens .exit)) (now (closes .exit)) (now (syms .exit)) ⌝ }
-    ensures { λ _. ⌜ Indexed (now (parts .entry)) (now (symbols .entry)) (now («part_slots» .exit)) (now («symbol_slots» .exit)) ⌝ }
+    requires { ⌜ (1 ≤ from) × (length (now closes) ≡ length (now opens)) ×
+        (length (now syms) ≡ length (now opens)) ⌝ }
+    ensures { λ _. ⌜ Resolved (now (parts .entry)) (now (symbols .entry)) (now (l .entry)) from
+        (length (now (opens .entry))) (now (opens .exit)) (now (closes .exit)) (now (syms .exit)) ⌝ }
+    ensures { λ _. ⌜ Indexed (now (parts .entry)) (now (symbols .entry)) (now («part_slots» .exit))
+        (now («symbol_slots» .exit)) ⌝ }
 {
     let n = below_two(parts);
     if are_whole(n, part_slots.len(), symbols.len(), symbol_slots.len()) {

@@ -20,7 +20,8 @@ ghost use Rattle.places.specs.Places.{Placed, Midway};
 // Place e for number a + j, unless it had one: n is none.
 fn put_first(out: &mut [u32], a: usize, j: usize, n: usize, e: usize)
     requires { ⌜ (a + j < length (now out)) × (e < 2097152) ⌝ }
-    ensures { λ _. ⌜ now (out .exit) ≡ (if eqb (getD (now (out .entry)) (a + j) 0) n then set (now (out .entry)) (a + j) e else now (out .entry)) ⌝ }
+    ensures { λ _. ⌜ now (out .exit) ≡ (if eqb (getD (now (out .entry)) (a + j) 0) n then set (now (out .entry))
+        (a + j) e else now (out .entry)) ⌝ }
 {
     if size(out[a + j]) != n {
         return;
@@ -46,7 +47,8 @@ fn meet(
     requires { ⌜ (e < n) × (n ≤ keyCount (now t) table) × (n ≤ 2097152) ⌝ }
     requires { ⌜ Loaded (now l) keys base m (now slots) ⌝ }
     requires { ⌜ Midway (now t) table n (now l) keys from base a m a e (now out) ⌝ }
-    ensures { λ _. ⌜ Midway (now (t .entry)) table n (now (l .entry)) keys from base a m a (e + 1) (now (out .exit)) ⌝ }
+    ensures { λ _. ⌜ Midway (now (t .entry)) table n (now (l .entry)) keys from base a m a (e + 1)
+        (now (out .exit)) ⌝ }
 {
     let k = key_at(t, table, e);
     match find_key(l, keys, base, slots, m, k) {
@@ -106,7 +108,8 @@ fn spread_one(
     requires { ⌜ i < m ⌝ }
     requires { ⌜ Loaded (now l) keys base m (now slots) ⌝ }
     requires { ⌜ Midway (now t) table n (now l) keys from base a m (a + i) n (now out) ⌝ }
-    ensures { λ _. ⌜ Midway (now (t .entry)) table n (now (l .entry)) keys from base a m (a + (i + 1)) n (now (out .exit)) ⌝ }
+    ensures { λ _. ⌜ Midway (now (t .entry)) table n (now (l .entry)) keys from base a m (a + (i + 1)) n
+        (now (out .exit)) ⌝ }
 {
     let k = key_from(l, keys, base, i);
     match find_key(l, keys, base, slots, m, k) {

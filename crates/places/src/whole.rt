@@ -68,7 +68,8 @@ fn tree_indices(
 ) -> Indices
     requires { ⌜ Whole (now parts) (now symbols) (now «part_slots») (now «symbol_slots») g ⌝ }
     requires { ⌜ (n < length (now l) / 13) × (1 ≤ n) ⌝ }
-    ensures { λ r. ⌜ rawFrom (r .opening) (r .closing) (r .symbol) (wordOf (now (l .entry)) n) ≡ rawOf (now (parts .entry)) (now (symbols .entry)) (now (l .entry)) n ⌝ }
+    ensures { λ r. ⌜ rawFrom (r .opening) (r .closing) (r .symbol) (wordOf (now (l .entry)) n) ≡ rawOf
+        (now (parts .entry)) (now (symbols .entry)) (now (l .entry)) n ⌝ }
 {
     let sort = l[13 * n];
     let o = place_in(
@@ -113,9 +114,11 @@ fn put(
     x: Indices,
 )
     requires { ⌜ (i < length (now opens)) × (i < length (now closes)) × (i < length (now syms)) ⌝ }
-    requires { ⌜ rawFrom (x .opening) (x .closing) (x .symbol) (wordOf (now l) (from + i)) ≡ rawOf (now parts) (now symbols) (now l) (from + i) ⌝ }
+    requires { ⌜ rawFrom (x .opening) (x .closing) (x .symbol) (wordOf (now l) (from + i)) ≡ rawOf (now parts)
+        (now symbols) (now l) (from + i) ⌝ }
     requires { ⌜ Resolved (now parts) (now symbols) (now l) from i (now opens) (now closes) (now syms) ⌝ }
-    ensures { λ _. ⌜ Resolved (now (parts .entry)) (now (symbols .entry)) (now (l .entry)) from (i + 1) (now (opens .exit)) (now (closes .exit)) (now (syms .exit)) ⌝ }
+    ensures { λ _. ⌜ Resolved (now (parts .entry)) (now (symbols .entry)) (now (l .entry)) from (i + 1)
+        (now (opens .exit)) (now (closes .exit)) (now (syms .exit)) ⌝ }
 {
     opens[i] = x.opening;
     closes[i] = x.closing;
@@ -135,8 +138,10 @@ pub fn resolve_whole(
     syms: &mut [u32],
 )
     requires { ⌜ Whole (now parts) (now symbols) (now «part_slots») (now «symbol_slots») g ⌝ }
-    requires { ⌜ (1 ≤ from) × (length (now closes) ≡ length (now opens)) × (length (now syms) ≡ length (now opens)) ⌝ }
-    ensures { λ _. ⌜ Resolved (now (parts .entry)) (now (symbols .entry)) (now (l .entry)) from (length (now (opens .entry))) (now (opens .exit)) (now (closes .exit)) (now (syms .exit)) ⌝ }
+    requires { ⌜ (1 ≤ from) × (length (now closes) ≡ length (now opens)) ×
+        (length (now syms) ≡ length (now opens)) ⌝ }
+    ensures { λ _. ⌜ Resolved (now (parts .entry)) (now (symbols .entry)) (now (l .entry)) from
+        (length (now (opens .entry))) (now (opens .exit)) (now (closes .exit)) (now (syms .exit)) ⌝ }
 {
     let k = l.len() / 13;
     if k <= from {

@@ -66,7 +66,8 @@ fn join_class(
     requires { ⌜ (n ≡ keyCount (now l) symbols) × (n < 4294967295) × (1 < classes) × (classes ≤ 1048576) ⌝ }
     requires { ⌜ (0 < length (now table)) × (length (now table) ≤ 1048576) ⌝ }
     requires { ⌜ (length (now firsts) ≤ 1048576) × (length (now counts) ≡ length (now firsts)) ⌝ }
-    requires { ⌜ Filled (now l) symbols classes class (length (now table)) 0 0 (now table) (now firsts) (now counts) ⌝ }
+    requires { ⌜ Filled (now l) symbols classes class (length (now table)) 0 0 (now table) (now firsts)
+        (now counts) ⌝ }
     requires { ⌜ Room (now l) symbols (now words) (now tallies)
         × Held (now l) symbols classes class at (now words) (now tallies) ⌝ }
     ensures { λ r. ⌜ HeldIf (now (l .entry)) symbols classes (length (now (firsts .entry))) class at r

@@ -100,7 +100,8 @@ fn enter_key(
     requires { ⌜ (0 < length (now table)) × (length (now table) ≤ 1048576) ⌝ }
     requires { ⌜ (p ≤ length (now firsts)) × (length (now firsts) ≤ 1048576)
         × (length (now counts) ≡ length (now firsts)) ⌝ }
-    requires { ⌜ Filled (now l) symbols classes class (length (now table)) v p (now table) (now firsts) (now counts) ⌝ }
+    requires { ⌜ Filled (now l) symbols classes class (length (now table)) v p (now table) (now firsts)
+        (now counts) ⌝ }
     requires { ⌜ liveIn (now l) symbols classes class v ≡ true ⌝ }
     ensures { λ r. ⌜ FilledIf (length (now (firsts .entry))) (now (l .entry)) symbols classes class
         (length (now (table .entry)))
@@ -138,7 +139,8 @@ fn enter(
     requires { ⌜ (0 < length (now table)) × (length (now table) ≤ 1048576) ⌝ }
     requires { ⌜ (p ≤ length (now firsts)) × (length (now firsts) ≤ 1048576)
         × (length (now counts) ≡ length (now firsts)) ⌝ }
-    requires { ⌜ Filled (now l) symbols classes class (length (now table)) v p (now table) (now firsts) (now counts) ⌝ }
+    requires { ⌜ Filled (now l) symbols classes class (length (now table)) v p (now table) (now firsts)
+        (now counts) ⌝ }
     ensures { λ r. ⌜ FilledIf (length (now (firsts .entry))) (now (l .entry)) symbols classes class
         (length (now (table .entry)))
         (v + 1) r (now (table .exit)) (now (firsts .exit)) (now (counts .exit)) ⌝ }
@@ -163,7 +165,8 @@ pub fn gather(
     requires { ⌜ (n ≡ keyCount (now l) symbols) × (n < 4294967295) × (classes ≤ 1048576) ⌝ }
     requires { ⌜ (0 < length (now table)) × (length (now table) ≤ 1048576) ⌝ }
     requires { ⌜ (length (now firsts) ≤ 1048576) × (length (now counts) ≡ length (now firsts)) ⌝ }
-    requires { ⌜ Filled (now l) symbols classes class (length (now table)) 0 0 (now table) (now firsts) (now counts) ⌝ }
+    requires { ⌜ Filled (now l) symbols classes class (length (now table)) 0 0 (now table) (now firsts)
+        (now counts) ⌝ }
     ensures { λ r. ⌜ FilledIf (length (now (firsts .entry))) (now (l .entry)) symbols classes class
         (length (now (table .entry)))
         n r (now (table .exit)) (now (firsts .exit)) (now (counts .exit)) ⌝ }

@@ -30,15 +30,15 @@ use Rattle.tree.specs.declared.refusal.Verdict.the-variants as verdicts
 use Rattle.tree.specs.declared.refusal.Report.{Report}
 use Rattle.tree.specs.declared.refusal.Report.the-variants.{Wrote, Refused}
 use Rattle.writer.specs.Tail.{fiveFrom, restOf, sizeFrom}
-use Rattle.writer.specs.Run.{Lent, Ready, Sized, Beyond}
+use Rattle.writer.specs.Run.{firstAbsent, Lent, Ready, Sized, Beyond}
 use Rattle.writer.specs.Written.{Written, Within, Ruled, Passed, Finished}
 use Rattle.writer.proofs.TailLaw.{work-length, work-at}
-use Rattle.writer.proofs.RunLaw.{run-cases, lent-roomy, lent-ready, same-chain}
-use Rattle.writer.proofs.FiveReturns.{five-past, five-here}
+use Rattle.writer.proofs.RunLaw.{run-cases, ready-roomy, ready-indexed, run-whole, lent-roomy, lent-ready, same-chain}
+use Rattle.writer.proofs.FiveReturns.{five-past, five-here, five-once, five-through}
 
-pub refuse-answer : (r : ℕ) → Refused (record { number = r; tree = 0 }) ≡ reportAnswer (refusal r 0)
+pub refuse-answer : (r n : ℕ) → Refused (record { number = r; tree = n }) ≡ reportAnswer (refusal r n)
 unfolding reportAnswer
-refuse-answer r = refl
+refuse-answer r n = refl
 
 -- ---- row 1 on the tables
 
@@ -197,6 +197,20 @@ module _ (p s l : List ℕ) (w : Ruled p s l) where
   pub ruled-most : listCount l ≤ 1048576
   ruled-most = w .within .mostTrees
 
+  -- … where the trees below the root are one run
+  module _ (m : ℕ) (f : m ≡ firstAbsent p s l 1 (listCount l)) where
+    pub once-refused : m < listCount l → (work out : List ℕ) (q : Report) → q ≡ reportAnswer (refusal 5 m) → Written p s l work out q work out
+    once-refused h work out q g = written-as p s l work out 5 m q g (below ∙ five-once p s l m f (w .within .someTrees) h)
+
+    pub once-passed : listCount l ≤ m → Passed p s l
+    once-passed h = record { within = w .within; rows = below ∙ five-through p s l m f (w .within .someTrees) h }
+
+    pub once-fits : m < listCount l → m < 4294967296
+    once-fits h = let a = w .within .mostTrees in omega arith
+
+  pub ruled-some : 1 ≤ listCount l
+  ruled-some = w .within .someTrees
+
 -- arrays of zeros
 module _ (p s l : List ℕ) (w : Ruled p s l) where
   pub zeros-lent : (a b m : ℕ) → 0 < a → 0 < b → a ≤ 1048576 → b ≤ 1048576 → 1 ≤ m → Lent p s (replicate a 0) (replicate b 0) (replicate m 0) (replicate m 0) (replicate m 0)
@@ -211,6 +225,10 @@ module _ (p s l : List ℕ) (w : Ruled p s l) where
 pub ruleset built-cases = (run-cases, ruled-most, five-refused, five-passed)
 
 pub ruleset with-cases = (same-chain, lent-roomy, lent-ready)
+
+pub ruleset once-cases = (once-refused, once-passed, once-fits)
+
+pub ruleset write-once-cases = (ready-roomy, ready-indexed, run-whole, ruled-some)
 
 pub ruleset class-cases = (zeros-lent)
 

@@ -153,6 +153,24 @@ module _ (p s l : List ℕ) where
   unfolding firstAbsent absent
   run-absent n stop h k = not-true (present p s l (find (absent p s l) (stop - n) n)) (find-at (absent p s l) (stop - n) n (omega arith))
 
+  -- one run
+  five-all : (m : ℕ) → m ≡ firstAbsent p s l 1 (listCount l) → 1 ≤ listCount l → fiveFrom p s l 1 ≡ fiveFrom p s l m
+  unfolding firstAbsent
+  five-all m f h = five-skip (listCount l - 1) 1 (omega arith) ∙ ap (fiveFrom p s l) (sym f)
+
+  pub five-once : (m : ℕ) → m ≡ firstAbsent p s l 1 (listCount l) → 1 ≤ listCount l → m < listCount l → fiveFrom p s l 1 ≡ refused 5 m
+  unfolding firstAbsent absent
+  five-once m f h k =
+      let a : present p s l m ≡ false = rw f (not-true (present p s l (find (absent p s l) (listCount l - 1) 1)) (find-at (absent p s l) (listCount l - 1) 1 (omega arith))) in
+      five-all m f h ∙ five-here m k a
+
+  pub five-through : (m : ℕ) → m ≡ firstAbsent p s l 1 (listCount l) → 1 ≤ listCount l → listCount l ≤ m → fiveFrom p s l 1 ≡ passed
+  unfolding fiveFrom eachFrom
+  five-through m f h k =
+      let z : listCount l - m ≡ 0 = omega arith in
+      let a : fiveFrom p s l m ≡ passed = rw z in
+      five-all m f h ∙ a
+
   module _ (n : ℕ) (e : fiveFrom p s l 1 ≡ fiveFrom p s l n) where
     pub five-ends : listCount l ≤ n → Passed ≡ verdictAnswer (fiveFrom p s l 1)
     unfolding fiveFrom eachFrom verdictAnswer

@@ -60,6 +60,22 @@ module _ (p s ps ss os cs ys : List ℕ) (r : Ready p s ps ss os cs ys) where
           evenSyms = omega arith;
         }
 
+-- all trees below the root are one run
+pub run-whole : (p s ps ss os cs ys l : List ℕ) → Ready p s ps ss os cs ys → (os′ cs′ ys′ : List ℕ) → Resolved p s l 1 (length os) os′ cs′ ys′
+    → length os′ ≡ length os → length cs′ ≡ length cs → length ys′ ≡ length ys → 1 ≤ listCount l → listCount l ≤ length os → Run p s l 1 (listCount l) os′ cs′ ys′
+run-whole p s ps ss os cs ys l r os′ cs′ ys′ i eo ec ey h k =
+    let b = r .lent .evenCloses in
+    let c = r .lent .evenSyms in
+    record {
+      resolved = rw eo i;
+      below = omega arith;
+      some = h;
+      last = omega arith;
+      fits = omega arith;
+      evenCloses = omega arith;
+      evenSyms = omega arith;
+    }
+
 -- the slots have been built
 module _ (p s ps ss os cs ys : List ℕ) (r : Lent p s ps ss os cs ys) where
   pub lent-roomy : Roomy (length p) (length s) (length ps) (length ss)

@@ -41,8 +41,11 @@ fn put_at(
     at: usize,
 )
     requires { ⌜ Spanned (now l) n (now work) ⌝ }
-    requires { ⌜ Fits (rawFrom «open_index» «close_index» «symbol_index» (wordOf (now l) n)) (childrenIn (now l) n (now work)) at (now out) ⌝ }
-    ensures { λ _. ⌜ now (out .exit) ≡ put (now (out .entry)) at (treeBytes 1 (rawFrom «open_index» «close_index» «symbol_index» (wordOf (now (l .entry)) n)) (childrenIn (now (l .entry)) n (now (work .entry)))) ⌝ }
+    requires { ⌜ Fits (rawFrom «open_index» «close_index» «symbol_index» (wordOf (now l) n))
+        (childrenIn (now l) n (now work)) at (now out) ⌝ }
+    ensures { λ _. ⌜ now (out .exit) ≡ put (now (out .entry)) at
+        (treeBytes 1 (rawFrom «open_index» «close_index» «symbol_index» (wordOf (now (l .entry)) n))
+        (childrenIn (now (l .entry)) n (now (work .entry)))) ⌝ }
 {
     let tree = raw_from_words(l, n, open_index, close_index, symbol_index);
     let children = children_of(l, n, work);
@@ -50,7 +53,7 @@ fn put_at(
 }
 
 // Writes a run. The tables are those that its indices are places in.
-fn put_run(
+pub fn put_run(
     l: &[u32],
     parts: &[u32],
     symbols: &[u32],
@@ -66,7 +69,8 @@ fn put_run(
     requires { ⌜ Run (now parts) (now symbols) (now l) from stop (now opens) (now closes) (now syms) ⌝ }
     requires { ⌜ Sized (now parts) (now symbols) (now l) 0 (now work) ⌝ }
     requires { ⌜ sizeFrom (now parts) (now symbols) (now l) 0 ≤ length (now out) ⌝ }
-    ensures { λ _. ⌜ Advanced (now (parts .entry)) (now (symbols .entry)) (now (l .entry)) from stop (now (out .entry)) (now (out .exit)) ⌝ }
+    ensures { λ _. ⌜ Advanced (now (parts .entry)) (now (symbols .entry)) (now (l .entry)) from stop
+        (now (out .entry)) (now (out .exit)) ⌝ }
 {
     let mut n = from;
     while n < stop {
@@ -92,12 +96,16 @@ fn put_from(
     syms: &mut [u32],
 ) -> usize
     requires { ⌜ Passed (now parts) (now symbols) (now l) ⌝ }
-    requires { ⌜ Ready (now parts) (now symbols) (now «part_slots») (now «symbol_slots») (now opens) (now closes) (now syms) ⌝ }
+    requires { ⌜ Ready (now parts) (now symbols) (now «part_slots») (now «symbol_slots») (now opens) (now closes)
+        (now syms) ⌝ }
     requires { ⌜ Sized (now parts) (now symbols) (now l) 0 (now work) ⌝ }
-    requires { ⌜ (1 ≤ n) × (n < listCount (now l)) × (sizeFrom (now parts) (now symbols) (now l) 0 ≤ length (now out)) ⌝ }
+    requires { ⌜ (1 ≤ n) × (n < listCount (now l)) ×
+        (sizeFrom (now parts) (now symbols) (now l) 0 ≤ length (now out)) ⌝ }
     ensures { λ r. ⌜ (n < r) × (r ≤ listCount (now (l .entry))) ⌝ }
-    ensures { λ r. ⌜ Advanced (now (parts .entry)) (now (symbols .entry)) (now (l .entry)) n r (now (out .entry)) (now (out .exit)) ⌝ }
-    ensures { λ _. ⌜ Indexed (now (parts .entry)) (now (symbols .entry)) (now («part_slots» .exit)) (now («symbol_slots» .exit)) ⌝ }
+    ensures { λ r. ⌜ Advanced (now (parts .entry)) (now (symbols .entry)) (now (l .entry)) n r (now (out .entry))
+        (now (out .exit)) ⌝ }
+    ensures { λ _. ⌜ Indexed (now (parts .entry)) (now (symbols .entry)) (now («part_slots» .exit))
+        (now («symbol_slots» .exit)) ⌝ }
 {
     let stop = run_end(n, opens.len(), l.len() / 13);
     resolve(
@@ -129,10 +137,12 @@ fn put_all(
     syms: &mut [u32],
 )
     requires { ⌜ Passed (now parts) (now symbols) (now l) ⌝ }
-    requires { ⌜ Ready (now parts) (now symbols) (now «part_slots») (now «symbol_slots») (now opens) (now closes) (now syms) ⌝ }
+    requires { ⌜ Ready (now parts) (now symbols) (now «part_slots») (now «symbol_slots») (now opens) (now closes)
+        (now syms) ⌝ }
     requires { ⌜ Sized (now parts) (now symbols) (now l) 0 (now work) ⌝ }
     requires { ⌜ sizeFrom (now parts) (now symbols) (now l) 0 ≤ length (now out) ⌝ }
-    ensures { λ r. ⌜ Advanced (now (parts .entry)) (now (symbols .entry)) (now (l .entry)) 1 (listCount (now (l .entry))) (now (out .entry)) (now (out .exit)) ⌝ }
+    ensures { λ r. ⌜ Advanced (now (parts .entry)) (now (symbols .entry)) (now (l .entry)) 1
+        (listCount (now (l .entry))) (now (out .entry)) (now (out .exit)) ⌝ }
 {
     let count = l.len() / 13;
     let mut n: usize = 1;
@@ -177,11 +187,12 @@ fn root_of(l: &[u32], parts: usize) -> RawSubtree
 }
 
 // Writes the root. The symbols are those of the list.
-fn put_root(l: &[u32], parts: &[u32], symbols: &[u32], work: &[u32], out: &mut [u8])
+pub fn put_root(l: &[u32], parts: &[u32], symbols: &[u32], work: &[u32], out: &mut [u8])
     requires { ⌜ Passed (now parts) (now symbols) (now l) ⌝ }
     requires { ⌜ Sized (now parts) (now symbols) (now l) 0 (now work) ⌝ }
     requires { ⌜ sizeFrom (now parts) (now symbols) (now l) 0 ≤ length (now out) ⌝ }
-    ensures { λ _. ⌜ Advanced (now (parts .entry)) (now (symbols .entry)) (now (l .entry)) 0 1 (now (out .entry)) (now (out .exit)) ⌝ }
+    ensures { λ _. ⌜ Advanced (now (parts .entry)) (now (symbols .entry)) (now (l .entry)) 0 1 (now (out .entry))
+        (now (out .exit)) ⌝ }
 {
     let root = root_of(l, parts.len() / 3);
     let children = children_of(l, 0, work);
@@ -202,10 +213,12 @@ pub fn put_list(
     syms: &mut [u32],
 )
     requires { ⌜ Passed (now parts) (now symbols) (now l) ⌝ }
-    requires { ⌜ Ready (now parts) (now symbols) (now «part_slots») (now «symbol_slots») (now opens) (now closes) (now syms) ⌝ }
+    requires { ⌜ Ready (now parts) (now symbols) (now «part_slots») (now «symbol_slots») (now opens) (now closes)
+        (now syms) ⌝ }
     requires { ⌜ Sized (now parts) (now symbols) (now l) 0 (now work) ⌝ }
     requires { ⌜ sizeFrom (now parts) (now symbols) (now l) 0 ≤ length (now out) ⌝ }
-    ensures { λ _. ⌜ now (out .exit) ≡ put (now (out .entry)) 0 (packed (now (parts .entry)) (now (symbols .entry)) (now (l .entry))) ⌝ }
+    ensures { λ _. ⌜ now (out .exit) ≡ put (now (out .entry)) 0
+        (packed (now (parts .entry)) (now (symbols .entry)) (now (l .entry))) ⌝ }
 {
     put_root(l, parts, symbols, work, out);
     put_all(

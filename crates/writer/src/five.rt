@@ -19,7 +19,8 @@ ghost use Rattle.writer.specs.Tail.{fiveFrom};
 // Whether part i is the one that is named at a place of the list.
 fn is_part(parts: &[u32], i: usize, l: &[u32], at: usize) -> bool
     requires { ⌜ (3 * i + 3 ≤ length (now parts)) × (at + 3 ≤ length (now l)) ⌝ }
-    ensures { λ r. ⌜ r ≡ isPart (now (parts .entry)) [] (getD (now (l .entry)) at 0) (getD (now (l .entry)) (at + 1) 0) (getD (now (l .entry)) (at + 2) 0) i ⌝ }
+    ensures { λ r. ⌜ r ≡ isPart (now (parts .entry)) [] (getD (now (l .entry)) at 0)
+        (getD (now (l .entry)) (at + 1) 0) (getD (now (l .entry)) (at + 2) 0) i ⌝ }
 {
     if parts[3 * i] != l[at] {
         return false;
@@ -55,7 +56,8 @@ fn is_present(
     close_index: u32,
     symbol_index: u32,
 ) -> bool
-    ensures { λ r. ⌜ r ≡ indexedBelow parts symbols (rawFrom «open_index» «close_index» «symbol_index» (wordOf (now (l .entry)) n)) ⌝ }
+    ensures { λ r. ⌜ r ≡ indexedBelow parts symbols
+        (rawFrom «open_index» «close_index» «symbol_index» (wordOf (now (l .entry)) n)) ⌝ }
 {
     let tree = raw_from_words(l, n, open_index, close_index, symbol_index);
     if row_eight(parts, symbols, 1, tree) != 0 {
@@ -65,7 +67,7 @@ fn is_present(
 }
 
 // The first tree of a run with a part or a symbol that has no place, or the end of the run.
-fn first_absent(
+pub fn first_absent(
     l: &[u32],
     parts: &[u32],
     symbols: &[u32],
@@ -120,10 +122,13 @@ fn search_run(
     syms: &mut [u32],
 ) -> Searched
     requires { ⌜ (1 ≤ n) × (n < listCount (now l)) ⌝ }
-    requires { ⌜ Ready (now parts) (now symbols) (now «part_slots») (now «symbol_slots») (now opens) (now closes) (now syms) ⌝ }
+    requires { ⌜ Ready (now parts) (now symbols) (now «part_slots») (now «symbol_slots») (now opens) (now closes)
+        (now syms) ⌝ }
     ensures { λ r. ⌜ (n < r .stop) × (r .stop ≤ listCount (now (l .entry))) ⌝ }
-    ensures { λ r. ⌜ r .found ≡ firstAbsent (now (parts .entry)) (now (symbols .entry)) (now (l .entry)) n (r .stop) ⌝ }
-    ensures { λ _. ⌜ Indexed (now (parts .entry)) (now (symbols .entry)) (now («part_slots» .exit)) (now («symbol_slots» .exit)) ⌝ }
+    ensures { λ r. ⌜ r .found ≡ firstAbsent (now (parts .entry)) (now (symbols .entry)) (now (l .entry)) n
+        (r .stop) ⌝ }
+    ensures { λ _. ⌜ Indexed (now (parts .entry)) (now (symbols .entry)) (now («part_slots» .exit))
+        (now («symbol_slots» .exit)) ⌝ }
 {
     let stop = run_end(n, opens.len(), l.len() / 13);
     resolve(
@@ -156,9 +161,11 @@ pub fn row_five(
     syms: &mut [u32],
 ) -> Verdict
     requires { ⌜ listCount (now l) ≤ 1048576 ⌝ }
-    requires { ⌜ Ready (now parts) (now symbols) (now «part_slots») (now «symbol_slots») (now opens) (now closes) (now syms) ⌝ }
+    requires { ⌜ Ready (now parts) (now symbols) (now «part_slots») (now «symbol_slots») (now opens) (now closes)
+        (now syms) ⌝ }
     ensures { λ r. ⌜ r ≡ verdictAnswer (fiveFrom (now (parts .entry)) (now (symbols .entry)) (now (l .entry)) 1) ⌝ }
-    ensures { λ _. ⌜ Indexed (now (parts .entry)) (now (symbols .entry)) (now («part_slots» .exit)) (now («symbol_slots» .exit)) ⌝ }
+    ensures { λ _. ⌜ Indexed (now (parts .entry)) (now (symbols .entry)) (now («part_slots» .exit))
+        (now («symbol_slots» .exit)) ⌝ }
 {
     let count = l.len() / 13;
     let mut n: usize = 1;

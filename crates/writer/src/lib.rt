@@ -1,5 +1,7 @@
 // The writer of a list over given tables: rows 1 to 5, then the sizes, then the bytes.
-pub mod bytes;
+mod bytes;
+mod five;
+mod once;
+mod refuse;
+mod sizes;
 pub mod write;
-pub mod five;
-pub mod sizes;

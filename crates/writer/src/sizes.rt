@@ -38,7 +38,9 @@ fn size_at(
     work: &[u32],
 ) -> u32
     requires { ⌜ Spanned (now l) n (now work) ⌝ }
-    ensures { λ r. ⌜ r ≡ length (treeBytes 1 (rawFrom «open_index» «close_index» «symbol_index» (wordOf (now (l .entry)) n)) (childrenIn (now (l .entry)) n (now (work .entry)))) ⌝ }
+    ensures { λ r. ⌜ r ≡ length (treeBytes 1
+        (rawFrom «open_index» «close_index» «symbol_index» (wordOf (now (l .entry)) n))
+        (childrenIn (now (l .entry)) n (now (work .entry)))) ⌝ }
 {
     let tree = raw_from_words(l, n, open_index, close_index, symbol_index);
     let children = children_of(l, n, work);
@@ -46,7 +48,7 @@ fn size_at(
 }
 
 // The work words of a run. The tables are those that its indices are places in.
-fn size_run(
+pub fn size_run(
     l: &[u32],
     parts: &[u32],
     symbols: &[u32],
@@ -98,12 +100,14 @@ fn size_before(
     syms: &mut [u32],
 ) -> usize
     requires { ⌜ Passed (now parts) (now symbols) (now l) ⌝ }
-    requires { ⌜ Ready (now parts) (now symbols) (now «part_slots») (now «symbol_slots») (now opens) (now closes) (now syms) ⌝ }
+    requires { ⌜ Ready (now parts) (now symbols) (now «part_slots») (now «symbol_slots») (now opens) (now closes)
+        (now syms) ⌝ }
     requires { ⌜ (1 < n) × (n ≤ listCount (now l)) × Sized (now parts) (now symbols) (now l) n (now work) ⌝ }
     ensures { λ r. ⌜ (1 ≤ r) × (r < n) ⌝ }
     ensures { λ r. ⌜ Sized (now (parts .entry)) (now (symbols .entry)) (now (l .entry)) r (now (work .exit)) ⌝ }
     ensures { λ _. ⌜ Beyond (now (l .entry)) (now (work .exit)) (now (work .entry)) ⌝ }
-    ensures { λ _. ⌜ Indexed (now (parts .entry)) (now (symbols .entry)) (now («part_slots» .exit)) (now («symbol_slots» .exit)) ⌝ }
+    ensures { λ _. ⌜ Indexed (now (parts .entry)) (now (symbols .entry)) (now («part_slots» .exit))
+        (now («symbol_slots» .exit)) ⌝ }
 {
     let from = run_start(n, opens.len());
     resolve(
@@ -134,11 +138,13 @@ fn size_all(
     syms: &mut [u32],
 )
     requires { ⌜ Passed (now parts) (now symbols) (now l) ⌝ }
-    requires { ⌜ Ready (now parts) (now symbols) (now «part_slots») (now «symbol_slots») (now opens) (now closes) (now syms) ⌝ }
+    requires { ⌜ Ready (now parts) (now symbols) (now «part_slots») (now «symbol_slots») (now opens) (now closes)
+        (now syms) ⌝ }
     requires { ⌜ Sized (now parts) (now symbols) (now l) (listCount (now l)) (now work) ⌝ }
     ensures { λ _. ⌜ Sized (now (parts .entry)) (now (symbols .entry)) (now (l .entry)) 1 (now (work .exit)) ⌝ }
     ensures { λ _. ⌜ Beyond (now (l .entry)) (now (work .exit)) (now (work .entry)) ⌝ }
-    ensures { λ _. ⌜ Indexed (now (parts .entry)) (now (symbols .entry)) (now («part_slots» .exit)) (now («symbol_slots» .exit)) ⌝ }
+    ensures { λ _. ⌜ Indexed (now (parts .entry)) (now (symbols .entry)) (now («part_slots» .exit))
+        (now («symbol_slots» .exit)) ⌝ }
 {
     let mut n = l.len() / 13;
     while 1 < n {
@@ -158,7 +164,7 @@ fn size_all(
 }
 
 // The work word of the root, which has a size of its own.
-fn size_root(l: &[u32], parts: &[u32], symbols: &[u32], work: &mut [u32])
+pub fn size_root(l: &[u32], parts: &[u32], symbols: &[u32], work: &mut [u32])
     requires { ⌜ Passed (now parts) (now symbols) (now l) ⌝ }
     requires { ⌜ Sized (now parts) (now symbols) (now l) 1 (now work) ⌝ }
     ensures { λ _. ⌜ Sized (now (parts .entry)) (now (symbols .entry)) (now (l .entry)) 0 (now (work .exit)) ⌝ }
@@ -180,11 +186,13 @@ pub fn fill_work(
     syms: &mut [u32],
 )
     requires { ⌜ Passed (now parts) (now symbols) (now l) ⌝ }
-    requires { ⌜ Ready (now parts) (now symbols) (now «part_slots») (now «symbol_slots») (now opens) (now closes) (now syms) ⌝ }
+    requires { ⌜ Ready (now parts) (now symbols) (now «part_slots») (now «symbol_slots») (now opens) (now closes)
+        (now syms) ⌝ }
     requires { ⌜ listCount (now l) < length (now work) ⌝ }
     ensures { λ _. ⌜ Sized (now (parts .entry)) (now (symbols .entry)) (now (l .entry)) 0 (now (work .exit)) ⌝ }
     ensures { λ _. ⌜ Beyond (now (l .entry)) (now (work .exit)) (now (work .entry)) ⌝ }
-    ensures { λ _. ⌜ Indexed (now (parts .entry)) (now (symbols .entry)) (now («part_slots» .exit)) (now («symbol_slots» .exit)) ⌝ }
+    ensures { λ _. ⌜ Indexed (now (parts .entry)) (now (symbols .entry)) (now («part_slots» .exit))
+        (now («symbol_slots» .exit)) ⌝ }
 {
     let count = l.len() / 13;
     work[count] = 0;

@@ -2,31 +2,21 @@
 use crate::bytes::put_list;
 use crate::five::root_present;
 use crate::five::row_five;
+use crate::once::write_once;
+use crate::refuse::refuse;
 use crate::sizes::fill_work;
 use list::rows::list_sized;
 use list::sized::list_rules;
 use places::resolve::build;
 use tree::raw::place;
-use tree::refusal::Refusal;
 use tree::refusal::Report;
 use tree::refusal::Verdict;
 ghost use mathlib.Core.Path.{_≡_};
 ghost use Rattle.format.specs.Tables.{ownTables};
-ghost use Rattle.format.specs.Verdict.{passed, refusal};
+ghost use Rattle.format.specs.Verdict.{passed};
 ghost use Rattle.format.specs.WordList.{listRules};
-ghost use Rattle.tree.specs.Refusal.{reportAnswer};
 ghost use Rattle.writer.specs.Run.{Lent, Ready, Sized};
 ghost use Rattle.writer.specs.Written.{Written, Within, Ruled, Passed, Finished};
-
-// Row `number`, which names no tree but the root.
-fn refuse(number: u32) -> Report
-    ensures { λ r. ⌜ r ≡ reportAnswer (refusal number 0) ⌝ }
-{
-    Report::Refused(Refusal {
-        number: number,
-        tree: 0,
-    })
-}
 
 // Row 6 for the output, then its bytes.
 fn finish(
@@ -42,9 +32,11 @@ fn finish(
     syms: &mut [u32],
 ) -> Report
     requires { ⌜ Passed (now parts) (now symbols) (now l) ⌝ }
-    requires { ⌜ Ready (now parts) (now symbols) (now «part_slots») (now «symbol_slots») (now opens) (now closes) (now syms) ⌝ }
+    requires { ⌜ Ready (now parts) (now symbols) (now «part_slots») (now «symbol_slots») (now opens) (now closes)
+        (now syms) ⌝ }
     requires { ⌜ Sized (now parts) (now symbols) (now l) 0 (now work) ⌝ }
-    ensures { λ r. ⌜ Finished (now (parts .entry)) (now (symbols .entry)) (now (l .entry)) (now (out .entry)) r (now (out .exit)) ⌝ }
+    ensures { λ r. ⌜ Finished (now (parts .entry)) (now (symbols .entry)) (now (l .entry)) (now (out .entry)) r
+        (now (out .exit)) ⌝ }
 {
     let total = place(work[0]);
     if out.len() < total {
@@ -79,8 +71,10 @@ fn write_passed(
     syms: &mut [u32],
 ) -> Report
     requires { ⌜ Passed (now parts) (now symbols) (now l) ⌝ }
-    requires { ⌜ Ready (now parts) (now symbols) (now «part_slots») (now «symbol_slots») (now opens) (now closes) (now syms) ⌝ }
-    ensures { λ r. ⌜ Written (now (parts .entry)) (now (symbols .entry)) (now (l .entry)) (now (work .entry)) (now (out .entry)) r (now (work .exit)) (now (out .exit)) ⌝ }
+    requires { ⌜ Ready (now parts) (now symbols) (now «part_slots») (now «symbol_slots») (now opens) (now closes)
+        (now syms) ⌝ }
+    ensures { λ r. ⌜ Written (now (parts .entry)) (now (symbols .entry)) (now (l .entry)) (now (work .entry))
+        (now (out .entry)) r (now (work .exit)) (now (out .exit)) ⌝ }
 {
     if work.len() <= l.len() / 13 {
         return refuse(6);
@@ -124,9 +118,25 @@ fn write_built(
     syms: &mut [u32],
 ) -> Report
     requires { ⌜ Ruled (now parts) (now symbols) (now l) ⌝ }
-    requires { ⌜ Ready (now parts) (now symbols) (now «part_slots») (now «symbol_slots») (now opens) (now closes) (now syms) ⌝ }
-    ensures { λ r. ⌜ Written (now (parts .entry)) (now (symbols .entry)) (now (l .entry)) (now (work .entry)) (now (out .entry)) r (now (work .exit)) (now (out .exit)) ⌝ }
+    requires { ⌜ Ready (now parts) (now symbols) (now «part_slots») (now «symbol_slots») (now opens) (now closes)
+        (now syms) ⌝ }
+    ensures { λ r. ⌜ Written (now (parts .entry)) (now (symbols .entry)) (now (l .entry)) (now (work .entry))
+        (now (out .entry)) r (now (work .exit)) (now (out .exit)) ⌝ }
 {
+    if l.len() / 13 <= opens.len() {
+        return write_once(
+            l,
+            parts,
+            symbols,
+            work,
+            out,
+            part_slots,
+            symbol_slots,
+            opens,
+            closes,
+            syms,
+        );
+    }
     match row_five(
         l,
         parts,
@@ -167,8 +177,10 @@ fn write_with(
     syms: &mut [u32],
 ) -> Report
     requires { ⌜ Ruled (now parts) (now symbols) (now l) ⌝ }
-    requires { ⌜ Lent (now parts) (now symbols) (now «part_slots») (now «symbol_slots») (now opens) (now closes) (now syms) ⌝ }
-    ensures { λ r. ⌜ Written (now (parts .entry)) (now (symbols .entry)) (now (l .entry)) (now (work .entry)) (now (out .entry)) r (now (work .exit)) (now (out .exit)) ⌝ }
+    requires { ⌜ Lent (now parts) (now symbols) (now «part_slots») (now «symbol_slots») (now opens) (now closes)
+        (now syms) ⌝ }
+    ensures { λ r. ⌜ Written (now (parts .entry)) (now (symbols .entry)) (now (l .entry)) (now (work .entry))
+        (now (out .entry)) r (now (work .exit)) (now (out .exit)) ⌝ }
 {
     build(parts, symbols, part_slots, symbol_slots);
     write_built(
@@ -194,13 +206,14 @@ fn write_small(
     out: &mut [u8],
 ) -> Report
     requires { ⌜ Ruled (now parts) (now symbols) (now l) ⌝ }
-    ensures { λ r. ⌜ Written (now (parts .entry)) (now (symbols .entry)) (now (l .entry)) (now (work .entry)) (now (out .entry)) r (now (work .exit)) (now (out .exit)) ⌝ }
+    ensures { λ r. ⌜ Written (now (parts .entry)) (now (symbols .entry)) (now (l .entry)) (now (work .entry))
+        (now (out .entry)) r (now (work .exit)) (now (out .exit)) ⌝ }
 {
     let mut part_slots = [0u32; 2048];
     let mut symbol_slots = [0u32; 2048];
-    let mut opens = [0u32; 256];
-    let mut closes = [0u32; 256];
-    let mut syms = [0u32; 256];
+    let mut opens = [0u32; 1024];
+    let mut closes = [0u32; 1024];
+    let mut syms = [0u32; 1024];
     write_with(
         l,
         parts,
@@ -224,7 +237,8 @@ fn write_large(
     out: &mut [u8],
 ) -> Report
     requires { ⌜ Ruled (now parts) (now symbols) (now l) ⌝ }
-    ensures { λ r. ⌜ Written (now (parts .entry)) (now (symbols .entry)) (now (l .entry)) (now (work .entry)) (now (out .entry)) r (now (work .exit)) (now (out .exit)) ⌝ }
+    ensures { λ r. ⌜ Written (now (parts .entry)) (now (symbols .entry)) (now (l .entry)) (now (work .entry))
+        (now (out .entry)) r (now (work .exit)) (now (out .exit)) ⌝ }
 {
     let mut part_slots = [0u32; 65536];
     let mut symbol_slots = [0u32; 131072];
@@ -256,7 +270,8 @@ fn write_at(
     level: usize,
 ) -> Report
     requires { ⌜ Ruled (now parts) (now symbols) (now l) ⌝ }
-    ensures { λ r. ⌜ Written (now (parts .entry)) (now (symbols .entry)) (now (l .entry)) (now (work .entry)) (now (out .entry)) r (now (work .exit)) (now (out .exit)) ⌝ }
+    ensures { λ r. ⌜ Written (now (parts .entry)) (now (symbols .entry)) (now (l .entry)) (now (work .entry))
+        (now (out .entry)) r (now (work .exit)) (now (out .exit)) ⌝ }
 {
     if level != 0 {
         return write_large(l, parts, symbols, work, out);
@@ -300,7 +315,8 @@ fn write_ruled(
 ) -> Report
     requires { ⌜ Within (now parts) (now symbols) (now l) ⌝ }
     requires { ⌜ listRules (now l) ≡ passed ⌝ }
-    ensures { λ r. ⌜ Written (now (parts .entry)) (now (symbols .entry)) (now (l .entry)) (now (work .entry)) (now (out .entry)) r (now (work .exit)) (now (out .exit)) ⌝ }
+    ensures { λ r. ⌜ Written (now (parts .entry)) (now (symbols .entry)) (now (l .entry)) (now (work .entry))
+        (now (out .entry)) r (now (work .exit)) (now (out .exit)) ⌝ }
 {
     if !root_present(l, parts) {
         return refuse(5);
@@ -316,7 +332,8 @@ pub fn encode_list(
     work: &mut [u32],
     out: &mut [u8],
 ) -> Report
-    ensures { λ r. ⌜ Written (now (parts .entry)) (now (symbols .entry)) (now (l .entry)) (now (work .entry)) (now (out .entry)) r (now (work .exit)) (now (out .exit)) ⌝ }
+    ensures { λ r. ⌜ Written (now (parts .entry)) (now (symbols .entry)) (now (l .entry)) (now (work .entry))
+        (now (out .entry)) r (now (work .exit)) (now (out .exit)) ⌝ }
 {
     if !list_sized(l) {
         return refuse(1);

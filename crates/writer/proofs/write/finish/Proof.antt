@@ -6,7 +6,7 @@ use Rattle.writer.proofs.write.finish.Reads as reads
 use Rattle.writer.proofs.write.finish.Lts as lts
 use Rattle.tree.proofs.raw.place.Reads as place-reads
 use Rattle.writer.proofs.bytes.put_list.Reads as put-list-reads
-use Rattle.writer.proofs.write.refuse.Reads as refuse-reads
+use Rattle.writer.proofs.refuse.refuse.Reads as refuse-reads
 
 -- src/encode.rt:49:23
 shared-slice-read-place : tie.Need-shared-slice-read-place

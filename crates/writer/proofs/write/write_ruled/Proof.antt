@@ -4,7 +4,7 @@ use Rattle.writer.proofs.write.write_ruled.Statement.{statement}
 use Rattle.writer.proofs.write.write_ruled.Tie as tie
 use Rattle.writer.proofs.write.write_ruled.Reads as reads
 use Rattle.writer.proofs.write.write_ruled.Lts as lts
-use Rattle.writer.proofs.write.refuse.Reads as refuse-reads
+use Rattle.writer.proofs.refuse.refuse.Reads as refuse-reads
 use Rattle.writer.proofs.write.write_at.Reads as write-at-reads
 use Rattle.writer.proofs.five.root_present.Reads as root-present-reads
 
