@@ -43,15 +43,15 @@ tens (suc k) = 10 * tens k
 pub digits-few : (k f n : ℕ) → n < tens (suc k) → length (digitsFor f n) ≤ suc k
 unfolding digitsFor
 digits-few k zero n h = omega arith
-digits-few k (suc f) n h = go k h (ltb n 10) refl
+digits-few k (suc f) n h = go k h (ltb n 10) refl (λ j. digits-few j f (n / 10))
   where
     last : (ds : List ℕ) (d j : ℕ) → length ds ≤ j → length (ds ++ (d ∷ [])) ≤ suc j
     last ds d j l = let e = length-append ds (d ∷ []) in omega arith
 
-    go : (k : ℕ) → n < tens (suc k) → (x : Bool) → ltb n 10 ≡ x → length (digitsFor (suc f) n) ≤ suc k
-    go k h true e = simp e (omega arith)
-    go zero h false e = let l = ltb-false n 10 e in absurd (omega arith)
-    go (suc k) h false e = simp e (last (digitsFor f (n / 10)) (48 + n % 10) (suc k) (digits-few k f (n / 10) (omega arith)))
+    go : (k : ℕ) → n < tens (suc k) → (x : Bool) → ltb n 10 ≡ x → ((j : ℕ) → n / 10 < tens (suc j) → length (digitsFor f (n / 10)) ≤ suc j) → length (digitsFor (suc f) n) ≤ suc k
+    go k h true e rec = simp e (omega arith)
+    go zero h false e rec = let l = ltb-false n 10 e in absurd (omega arith)
+    go (suc k) h false e rec = simp e (last (digitsFor f (n / 10)) (48 + n % 10) (suc k) (rec k (omega arith)))
 
 pub decimal-few : (k n : ℕ) → n < tens (suc k) → length (decimal n) ≤ suc k
 decimal-few k n h = digits-few k (n + 1) n h
