@@ -64,16 +64,18 @@ abbrev pub header : ℕ → ℕ → ℕ → ℕ → List ℕ
 header trees bytes parts symbols =
     treesText ++ decimal trees ++ bytesText ++ decimal bytes ++ partsText ++ decimal parts ++ symbolsText ++ decimal symbols ++ newline
 
--- the lines of any reader's trees, whose sort a function tells by the number that word 0 of a tree is
+-- "then tree number, first byte, depth, sort", the sort by word 0 of the tree
+abbrev pub line : ℕ → ℕ → ℕ → ℕ → List ℕ
+line n place depth sort = decimal n ++ gap ++ decimal place ++ gap ++ decimal depth ++ gap ++ sortText sort ++ newline
+
+-- the lines of any reader's trees; sort tells a tree's word 0
 module _ {Tree : Type 0} (S : Shape Tree) (sort : Tree → ℕ) (R : Reader Tree) where
   -- "the root counting 1": the subtrees around tree n, and one more
   abbrev pub depthOf : ℕ → ℕ
   depthOf n = around S (listing S R) n n + 1
 
-  -- "then tree number, first byte, depth, sort"
   unfoldable pub treeLine : ℕ → List ℕ
-  treeLine n =
-      decimal n ++ gap ++ decimal (placeOf S R n) ++ gap ++ decimal (depthOf n) ++ gap ++ sortText (sort (listing S R .tree n)) ++ newline
+  treeLine n = line n (placeOf S R n) (depthOf n) (sort (listing S R .tree n))
 
   -- the lines of the j trees from tree n on
   unfoldable pub treeLines : ℕ → ℕ → List ℕ

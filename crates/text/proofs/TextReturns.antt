@@ -8,7 +8,7 @@ use lib.ListN.{length, set, take, getD}
 use lib.Seq.{set-out, take-suc, take-all}
 use Rattle.format.specs.Lister.{decimal}
 use Rattle.text.specs.Typed.{Typed}
-use Rattle.text.proofs.Typed.{kept, next-inside, then, typed-none, typed-as}
+use Rattle.text.proofs.Typed.{kept, next-inside, typed-then, typed-none, typed-as}
 use Rattle.text.proofs.Decimal.{decimal-one, decimal-more}
 
 -- ---- put_char
@@ -29,7 +29,7 @@ text-none b at s h = typed-none b at h
 module _ (b b₁ s : List ℕ) (at r i : ℕ) (t : Typed b at (take i s) r b₁) where
   pub text-more : (r₂ : ℕ) (b₂ : List ℕ) → i < length s → Typed b₁ r (getD s i 0 ∷ []) r₂ b₂ → Typed b at (take (i + 1) s) r₂ b₂
   text-more r₂ b₂ h u =
-      typed-as b b₂ at r₂ _ _ (sym (ap (λ n. take n s) (add-one i) ∙ take-suc s i 0 h)) (then b b₁ at r (take i s) t b₂ r₂ (getD s i 0 ∷ []) u)
+      typed-as b b₂ at r₂ _ _ (sym (ap (λ n. take n s) (add-one i) ∙ take-suc s i 0 h)) (typed-then b b₁ at r (take i s) t b₂ r₂ (getD s i 0 ∷ []) u)
 
   pub text-all : length s ≤ i → Typed b at s r b₁
   text-all h = typed-as b b₁ at r _ _ (take-all i s h) t
@@ -50,6 +50,6 @@ module _ (b : List ℕ) (at n d : ℕ) (e : d ≡ 48 + n % 10) where
 
   pub more-digits : (r₁ r : ℕ) (b₁ b′ : List ℕ) → 10 ≤ n → Typed b at (decimal (n / 10)) r₁ b₁ → Typed b₁ r₁ (d ∷ []) r b′ → Typed b at (decimal n) r b′
   more-digits r₁ r b₁ b′ h t u =
-      typed-as b b′ at r _ _ (ap (λ x. decimal (n / 10) ++ (x ∷ [])) e ∙ sym (decimal-more n h)) (then b b₁ at r₁ (decimal (n / 10)) t b′ r (d ∷ []) u)
+      typed-as b b′ at r _ _ (ap (λ x. decimal (n / 10) ++ (x ∷ [])) e ∙ sym (decimal-more n h)) (typed-then b b₁ at r₁ (decimal (n / 10)) t b′ r (d ∷ []) u)
 
 pub ruleset decimal-cases = (one-digit, more-digits, next-inside)

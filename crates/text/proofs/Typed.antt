@@ -39,8 +39,8 @@ module _ (b b₁ : List ℕ) (at r₁ : ℕ) (vs : List ℕ) (t : Typed b at vs 
   next-inside = let e = t .next in let k = kept in omega arith
 
   -- two texts, the second behind the first, are one
-  pub then : (b₂ : List ℕ) (r₂ : ℕ) (ws : List ℕ) → Typed b₁ r₁ ws r₂ b₂ → Typed b at (vs ++ ws) r₂ b₂
-  then b₂ r₂ ws u =
+  pub typed-then : (b₂ : List ℕ) (r₂ : ℕ) (ws : List ℕ) → Typed b₁ r₁ ws r₂ b₂ → Typed b at (vs ++ ws) r₂ b₂
+  typed-then b₂ r₂ ws u =
       let e = t .next in
       let f = u .next in
       let k = kept in
