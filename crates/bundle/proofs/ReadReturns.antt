@@ -1,13 +1,12 @@
 -- One law for each return, call and turn of the loop of the reading of a bundle.
-use Prim.Native.Nat.{ℕ, _+_, _-_, _*_, _/_, _≤_, _<_}
+use Prim.Native.Nat.{ℕ, _+_, _-_, _*_, _≤_, _<_}
 use mathlib.Core.Bool.{Bool, true, false, not, _&&_}
-use mathlib.Core.Path.{_≡_, refl, sym, ap, _∙_, subst}
+use mathlib.Core.Path.{_≡_, refl, sym, ap, _∙_}
 use mathlib.Core.List.{List}
 use native.Mathlib.Omega.{arith}
 use borrow.Author.Tests.{le-leb, lt-leb, eq-eqb, ne-eqb, not-true, not-false}
 use lib.Dec.{leb}
 use lib.ListN.{length}
-use Rattle.format.specs.Test.{if_then_else_}
 use Rattle.format.specs.Word.{byteAt, wordAt}
 use Rattle.format.specs.Bundle.{marked, isLastRecord, lastRecord, bundleAt}
 use Rattle.bundle.specs.Answer.{isEntry, readAnswer, lastAnswer}

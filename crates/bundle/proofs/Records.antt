@@ -1,13 +1,12 @@
 -- Laws of a bundle's records: how far a count of them has come, and where the bytes stand.
-use Prim.Native.Nat.{ℕ, zero, suc, _+_, _-_, _*_, _/_, _≤_, _<_}
+use Prim.Native.Nat.{ℕ, zero, suc, _+_, _-_, _*_, _≤_}
 use mathlib.Core.Bool.{Bool, true, false, _&&_, _||_}
-use mathlib.Core.Path.{_≡_, refl, sym, ap, _∙_, subst}
-use mathlib.Core.List.{List, [], _∷_, _++_}
+use mathlib.Core.Path.{_≡_, refl, ap, _∙_}
+use mathlib.Core.List.{List, [], _++_}
 use native.Mathlib.Omega.{arith}
 use borrow.Author.Tests.{eqb-true, leb-true}
 use lib.Dec.{leb, eqb}
 use lib.ListN.{length, drop, length-append, length-drop}
-use Rattle.format.specs.Test.{if_then_else_}
 use Rattle.format.specs.Word.{byteAt}
 use Rattle.format.specs.Bundle.{BundleRead, bundle, badBundle, marked, isPartRecord, isSymbolRecord, isLastRecord, partRecord, symbolRecord, behind, lastRecord, records, bundleAt}
 use Rattle.format.proofs.Each.{and-left, and-right}

@@ -1,25 +1,24 @@
 -- The lister's text needs the numbers of parts and symbols, and no entry.
 use Prim.Native.Nat.{ℕ, zero, suc, _+_, _/_, _%_, _≤_}
-use mathlib.Core.Bool.{Bool, true, false, _&&_, not}
-use mathlib.Core.Path.{_≡_, refl, sym, ap, _∙_, subst}
-use mathlib.Core.List.{List, [], _∷_, _++_}
+use mathlib.Core.Bool.{Bool, true, false, _&&_}
+use mathlib.Core.Path.{_≡_, refl, sym, ap, _∙_}
+use mathlib.Core.List.{List, _++_}
 use borrow.Author.Tests.{eqb-true, eq-eqb, le-ltb}
-use lib.Dec.{eqb, leb, ltb}
-use lib.ListN.{length, getD, drop}
-use Rattle.format.specs.Test.{if_then_else_}
+use lib.Dec.{eqb, leb}
+use lib.ListN.{length, drop}
 use Rattle.format.specs.Verdict.{Verdict, passed, refused}
 use Rattle.format.specs.Reader.{Shape, Reader, Reply, got, bad}
-use Rattle.format.specs.Plain.{Listing, endOf, sub}
+use Rattle.format.specs.Plain.{sub}
 use Rattle.format.specs.Laws.{around}
 use Rattle.format.specs.Tree.{Raw, punct, ident, literal, subtree, treeAt}
 use Rattle.format.specs.Fields.{fields}
-use Rattle.format.specs.Check.{check, placeOf, listing, treeOf}
+use Rattle.format.specs.Check.{placeOf, listing, treeOf}
 use Rattle.format.specs.Tables.{treeWords, rules, ownTables, countRules, tablesSized, rowEight}
 use Rattle.format.specs.Buffer.{formed, judge, wordShape, rawShape, ownReader, sizeReader, bufferCheck}
 use Rattle.format.specs.Sight.{Alike}
-use Rattle.format.specs.Bundle.{Bundle, bundle, bundleAt, checkOf, bundleCheck}
-use Rattle.format.specs.Lister.{header, refusalLine, sortWord, line, treeLine, treeLines, bufferLines, bundleText, listerText}
-use Rattle.format.proofs.Each.{and-left, and-right, true-false}
+use Rattle.format.specs.Bundle.{Bundle, bundle, bundleAt, checkOf}
+use Rattle.format.specs.Lister.{header, sortWord, treeLine, treeLines, bufferLines, bundleText, listerText}
+use Rattle.format.proofs.Each.{and-left, and-right}
 use Rattle.format.proofs.Sight.{place-same, sub-same, end-same}
 use Rattle.format.proofs.RawReader.{raw-alike, own-telling}
 use Rattle.format.proofs.Own.{own-sound}

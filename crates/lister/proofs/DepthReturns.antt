@@ -2,12 +2,11 @@
 use Prim.Native.Nat.{ℕ, zero, suc, _+_, _-_, _≤_, _<_}
 use mathlib.Core.Path.{_≡_, refl, sym, ap, _∙_, subst}
 use mathlib.Core.Logic.{_≢_}
-use mathlib.Core.List.{List, [], _∷_}
+use mathlib.Core.List.{List}
 use native.Mathlib.Omega.{arith}
 use native.Mathlib.Numerals.{add-one}
 use lib.ListN.{set, getD, length-set}
 use lib.Seq.{getD-set-same, getD-set-other}
-use Rattle.format.specs.Test.{if_then_else_}
 use Rattle.format.specs.Nest.{stillOpen}
 use Rattle.format.proofs.NestLaw.{still-above, still-below}
 use Rattle.tree.specs.Raw.{rawOf}
@@ -17,7 +16,7 @@ use Rattle.tree.specs.declared.raw.RawLiteral.{RawLiteral}
 use Rattle.tree.specs.declared.raw.RawSubtree.{RawSubtree}
 use Rattle.tree.specs.declared.raw.RawTree.{RawTree}
 use Rattle.tree.specs.declared.raw.RawTree.the-variants.{Punct, Ident, Literal, Subtree}
-use Rattle.lister.specs.Ends.{openEnds, Closed, push, Opens, Pushed}
+use Rattle.lister.specs.Ends.{openEnds, Closed, Opens, Pushed}
 
 -- ---- still_open
 

@@ -1,19 +1,17 @@
 -- How long a text can be: of a buffer that the check has passed, five bytes for each byte, and the header.
 use Prim.Native.Nat.{ℕ, zero, suc, _+_, _*_, _≤_, _<_}
 use mathlib.Core.Bool.{Bool, true, false, _&&_}
-use mathlib.Core.Path.{_≡_, refl, sym, ap, _∙_, subst}
-use mathlib.Core.List.{List, [], _∷_, _++_}
+use mathlib.Core.Path.{_≡_, refl, ap, _∙_, subst}
+use mathlib.Core.List.{List, _++_}
 use native.Mathlib.Omega.{arith}
 use native.Mathlib.Nat.{zero-add}
 use native.Mathlib.Numerals.{add-one}
 use borrow.Author.Tests.{leb-true}
 use lib.Dec.{leb, eqb}
 use lib.ListN.{length, length-append}
-use Rattle.format.specs.Test.{if_then_else_}
 use Rattle.format.specs.Verdict.{passed}
-use Rattle.format.specs.Reader.{Reader, got}
-use Rattle.format.specs.Tree.{Raw, treeAt}
-use Rattle.format.specs.Laws.{around}
+use Rattle.format.specs.Reader.{Reader}
+use Rattle.format.specs.Tree.{Raw}
 use Rattle.format.specs.Check.{check, placeOf, listing, Admitted}
 use Rattle.format.specs.Tables.{countRules, tablesSized}
 use Rattle.format.specs.Buffer.{rawShape, sizeReader}

@@ -1,8 +1,7 @@
 -- One law for each return of the functions that put the listing's lines.
-use Prim.Native.Nat.{ℕ, _≤_}
-use mathlib.Core.Path.{_≡_, refl, sym, ap, _∙_, subst}
+use Prim.Native.Nat.{ℕ}
+use mathlib.Core.Path.{_≡_, sym, subst}
 use mathlib.Core.List.{List, [], _∷_, _++_, append-assoc}
-use lib.ListN.{length}
 use Rattle.format.specs.Lister.{decimal, gap, newline, treesText, bytesText, partsText, symbolsText, refusedText, atText, sortText, header, refusalLine, line}
 use Rattle.text.specs.Typed.{Typed}
 use Rattle.text.proofs.Typed.{next-inside, typed-then, typed-as}

@@ -4,10 +4,8 @@ use mathlib.Core.Path.{_≡_, refl, sym, ap, _∙_, subst}
 use mathlib.Core.List.{List, _++_}
 use native.Mathlib.Omega.{arith}
 use borrow.Author.Tests.{lt-ltb, le-ltb}
-use lib.Dec.{ltb}
 use lib.ListN.{length, take, drop}
 use lib.Seq.{length-take-le}
-use Rattle.format.specs.Test.{if_then_else_}
 use Rattle.format.specs.Verdict as format
 use Rattle.format.specs.Tree.{Raw}
 use Rattle.format.specs.Nest.{stillOpen}
@@ -17,7 +15,7 @@ use Rattle.format.specs.Bundle.{bundleAt, checkOf}
 use Rattle.format.specs.Lister.{refusalLine, header, line, bundleText, listerText}
 use Rattle.io.specs.Counts.{Counts}
 use Rattle.text.specs.Typed.{Typed}
-use Rattle.text.proofs.Typed.{kept, next-inside, typed-then, typed-as, typed-whole}
+use Rattle.text.proofs.Typed.{next-inside, typed-then, typed-as, typed-whole}
 use Rattle.tree.specs.Refusal.{verdictAnswer}
 use Rattle.tree.specs.declared.refusal.Refusal.{Refusal}
 use Rattle.tree.specs.declared.refusal.Verdict.{Verdict}

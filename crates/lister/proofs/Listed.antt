@@ -2,16 +2,15 @@
 use Prim.Native.Nat.{ℕ, zero, suc, _+_, _≤_, _<_}
 use mathlib.Core.Bool.{Bool, true, false, _&&_}
 use mathlib.Core.Path.{_≡_, refl, sym, ap, _∙_, subst}
-use mathlib.Core.List.{List, [], _∷_, _++_, append-assoc, append-nil}
+use mathlib.Core.List.{List, _∷_, _++_, append-assoc, append-nil}
 use native.Mathlib.Omega.{arith}
 use native.Mathlib.Nat.{add-zero, zero-add}
 use native.Mathlib.Numerals.{add-one}
 use borrow.Author.Tests.{leb-true}
 use lib.Dec.{leb}
 use lib.ListN.{length, replicate, length-replicate}
-use Rattle.format.specs.Test.{if_then_else_}
 use Rattle.format.specs.Verdict.{passed}
-use Rattle.format.specs.Reader.{Shape, Reader, Reply, got, bad}
+use Rattle.format.specs.Reader.{Shape, Reader, got, bad}
 use Rattle.format.specs.Tree.{Raw, isSubtree, countOf, treeAt}
 use Rattle.format.specs.Plain.{Listing, endOf, sub}
 use Rattle.format.specs.Laws.{around, Nested}

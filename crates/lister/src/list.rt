@@ -29,7 +29,7 @@ ghost use Rattle.lister.specs.TreePut.{TreePut};
 // The bytes that are taken.
 const MOST: usize = 65536;
 
-// Where the next line goes, and the open subtrees around the next tree or before it.
+// Where the next line goes, and how many subtrees are on the stack.
 struct Done {
     next: usize,
     depth: usize,
@@ -63,7 +63,8 @@ fn put_tree(
 fn put_lines(out: &mut [u8], at: usize, b: &[u8], trees: u32, parts: usize, symbols: usize) -> usize
     requires { ⌜ at ≤ length (now out) ⌝ }
     requires { ⌜ checked rawShape (sizeReader (now b) trees parts symbols) ≡ passed ⌝ }
-    ensures { λ r. ⌜ Typed (now (out .entry)) at (sizeLines (now (b .entry)) trees parts symbols) r (now (out .exit)) ⌝ }
+    ensures { λ r. ⌜ Typed (now (out .entry)) at (sizeLines (now (b .entry)) trees parts symbols)
+        r (now (out .exit)) ⌝ }
 {
     let mut ends = [0u32; MAX_DEPTH];
     let mut depth: usize = 0;
@@ -73,6 +74,7 @@ fn put_lines(out: &mut [u8], at: usize, b: &[u8], trees: u32, parts: usize, symb
     while n < trees {
         let read = tree_at(b, parts, symbols, n, first);
         let RawRead::Got(here) = read else {
+            // Not in a buffer that the check has passed.
             return next;
         };
         let tree = here.tree;
@@ -85,9 +87,11 @@ fn put_lines(out: &mut [u8], at: usize, b: &[u8], trees: u32, parts: usize, symb
     next
 }
 
+// The listing or the refusal of a buffer, by the sizes of its tables.
 fn list_buffer(out: &mut [u8], b: &[u8], trees: u32, parts: usize, symbols: usize) -> usize
     requires { ⌜ length (now b) ≤ 65536 ⌝ }
-    ensures text { λ r. ⌜ Typed (now (out .entry)) 0 (sizesText (now (b .entry)) trees parts symbols) r (now (out .exit)) ⌝ }
+    ensures text { λ r. ⌜ Typed (now (out .entry)) 0 (sizesText (now (b .entry)) trees parts symbols)
+        r (now (out .exit)) ⌝ }
     ensures fits { λ _. ⌜ length (sizesText (now (b .entry)) trees parts symbols) ≤ 327744 ⌝ }
 {
     let verdict = check(b, trees, parts, symbols);
