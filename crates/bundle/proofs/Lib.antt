@@ -4,3 +4,5 @@ pub mod Told
 -- ---- one law for each return
 pub mod ReadReturns
 pub mod CheckReturns
+-- ---- what the host's number means
+pub mod Admits
