@@ -1,5 +1,5 @@
 -- What a caller learns from a tree that was read and judged.
-use Prim.Native.Nat.{ℕ, _<_, _≤_}
+use Prim.Native.Nat.{ℕ, _+_, _≤_}
 use mathlib.Core.Bool.{Bool, true, false}
 use mathlib.Core.Path.{_≡_, refl, subst}
 use mathlib.Core.List.{List}
@@ -58,7 +58,7 @@ module _ (b : List ℕ) (T : TableRules) (n at : ℕ) (r : RawRead) (e : r ≡ r
   pub judged-passed : Passed T n at (rawOf (y .tree)) (y .next)
   judged-passed = judged-here .1
 
-  pub judged-after : at < y .next
+  pub judged-after : at + 5 ≤ y .next
   judged-after = subst (Ended b at) judged-read (tree-ended b at) .0
 
   pub judged-inside : y .next ≤ length b

@@ -1,5 +1,5 @@
 -- What a caller learns from an answer of the tree reader, without opening a definition.
-use Prim.Native.Nat.{ℕ, _<_, _≤_}
+use Prim.Native.Nat.{ℕ, _+_, _≤_}
 use mathlib.Core.Bool.{Bool, true, false}
 use mathlib.Core.Path.{_≡_, refl, sym, ap, _∙_, subst}
 use mathlib.Core.List.{List}
@@ -79,7 +79,7 @@ module _ (b : List ℕ) (at : ℕ) (r : RawRead) (e : r ≡ rawAnswer (inRange (
   pub raw-fits : fields (rawOf (y .tree)) ≡ true
   raw-fits = range-back (rawOf (y .tree)) (y .next) (y .children .0) (treeAt b at) (reply-got (inRange (treeAt b at)) r e y k) .1
 
-  pub raw-after : at < y .next
+  pub raw-after : at + 5 ≤ y .next
   raw-after = subst (Ended b at) raw-read (tree-ended b at) .0
 
   pub raw-inside : y .next ≤ length b

@@ -106,8 +106,8 @@ module _ (b : List ℕ) (k : ℕ) (T : Tables) (ad : Admitted wordShape (reader 
       let a = later-place n (omega arith) in
       let C = each-clean wordShape (T .words) b k (rules T) ad (suc n) h in
       let p : ℕ = place (suc n) in
-      let l : p < place (suc n + 1) = (subst (Ended b p) (C .stands) (tree-ended b p)) .0 in
-      let l′ : p < place (suc (suc n)) = rw add-one at l in
+      let l : p + 5 ≤ place (suc n + 1) = (subst (Ended b p) (C .stands) (tree-ended b p)) .0 in
+      let l′ : p + 5 ≤ place (suc (suc n)) = rw add-one at l in
       omega arith
 
 -- ---- the buffer

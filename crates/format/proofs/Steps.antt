@@ -17,7 +17,7 @@ use Rattle.format.specs.LastSpan.{lastFor, lastSpan}
 use Rattle.format.specs.Tables.{treeWords}
 use Rattle.format.specs.Buffer.{judge, wordShape, ownReader, bufferCheck}
 use Rattle.format.specs.Bundle.{Bundle, bundle, badBundle, records, bundleAt, checkOf, numberOf}
-use Rattle.format.specs.Lister.{digitsFor, refusalLine, header, treeLine, treeLines, bundleText, listerText}
+use Rattle.format.specs.Lister.{digitsFor, refusalLine, header, sortWord, treeLine, treeLines, bundleText, listerText}
 use Rattle.format.proofs.Samples.{threeParts, fourParts, hundredSymbols, tenBytes}
 
 -- an Invisible root around `+`, empty parentheses, `+`, `+`
@@ -142,16 +142,16 @@ rootLine = 48 ∷ 32 ∷ 48 ∷ 32 ∷ 49 ∷ 32 ∷ 115 ∷ 117 ∷ 98 ∷ 116 
 abbrev plusLine : List ℕ
 plusLine = 49 ∷ 32 ∷ 51 ∷ 51 ∷ 32 ∷ 50 ∷ 32 ∷ 112 ∷ 117 ∷ 110 ∷ 99 ∷ 116 ∷ 10 ∷ []
 
-header-text : header plusBuffer 2 threeParts [] ≡ headerLine
+header-text : header 2 38 3 0 ≡ headerLine
 unfolding digitsFor
 header-text = refl
 
-root-text : treeLine plusBuffer 2 threeParts [] 0 ≡ rootLine
-unfolding digitsFor around placeOf ownReader judge treeWords treeAt afterSpan controlled spanAt wordAt
+root-text : treeLine wordShape sortWord (ownReader plusBuffer 2 threeParts []) 0 ≡ rootLine
+unfolding treeLine digitsFor around placeOf ownReader judge treeWords treeAt afterSpan controlled spanAt wordAt
 root-text = refl
 
-plus-text : treeLine plusBuffer 2 threeParts [] 1 ≡ plusLine
-unfolding digitsFor around placeOf ownReader judge treeWords treeAt afterSpan controlled spanAt wordAt
+plus-text : treeLine wordShape sortWord (ownReader plusBuffer 2 threeParts []) 1 ≡ plusLine
+unfolding treeLine digitsFor around placeOf ownReader judge treeWords treeAt afterSpan controlled spanAt wordAt
 plus-text = refl
 
 lister-text : listerText plusBundle ≡ headerLine ++ (rootLine ++ (plusLine ++ []))
@@ -162,8 +162,8 @@ lister-text =
     ∙ (λ i. header-text i ++ (root-text i ++ (plus-text i ++ [])))
 
 -- an ident and a literal three deep
-leaf-texts : (treeLine tenBytes 10 fourParts hundredSymbols 2 ≡ 50 ∷ 32 ∷ 52 ∷ 48 ∷ 32 ∷ 51 ∷ 32 ∷ 105 ∷ 100 ∷ 101 ∷ 110 ∷ 116 ∷ 10 ∷ []) × (treeLine tenBytes 10 fourParts hundredSymbols 3 ≡ 51 ∷ 32 ∷ 52 ∷ 54 ∷ 32 ∷ 51 ∷ 32 ∷ 108 ∷ 105 ∷ 116 ∷ 101 ∷ 114 ∷ 97 ∷ 108 ∷ 10 ∷ [])
-unfolding digitsFor around placeOf ownReader judge treeWords treeAt afterSpan controlled spanAt symbolAt wordAt halfAt
+leaf-texts : (treeLine wordShape sortWord (ownReader tenBytes 10 fourParts hundredSymbols) 2 ≡ 50 ∷ 32 ∷ 52 ∷ 48 ∷ 32 ∷ 51 ∷ 32 ∷ 105 ∷ 100 ∷ 101 ∷ 110 ∷ 116 ∷ 10 ∷ []) × (treeLine wordShape sortWord (ownReader tenBytes 10 fourParts hundredSymbols) 3 ≡ 51 ∷ 32 ∷ 52 ∷ 54 ∷ 32 ∷ 51 ∷ 32 ∷ 108 ∷ 105 ∷ 116 ∷ 101 ∷ 114 ∷ 97 ∷ 108 ∷ 10 ∷ [])
+unfolding treeLine digitsFor around placeOf ownReader judge treeWords treeAt afterSpan controlled spanAt symbolAt wordAt halfAt
 leaf-texts = (refl, refl)
 
 -- "The lister takes 65,536 bytes of standard input (more is 1)."

@@ -5,6 +5,7 @@ use lib.ListN.{length, getD}
 use lib.Dec.{ltb, eqb}
 use Rattle.format.specs.Test.{if_then_else_}
 use Rattle.format.specs.Verdict.{Verdict, passed, refused}
+use Rattle.format.specs.Reader.{Shape, Reader}
 use Rattle.format.specs.Laws.{around}
 use Rattle.format.specs.Check.{listing, placeOf}
 use Rattle.format.specs.Tables.{partCount}
@@ -58,29 +59,41 @@ atText = 32 ∷ 97 ∷ 116 ∷ 32 ∷ []
 abbrev pub refusalLine : ℕ → ℕ → List ℕ
 refusalLine r n = refusedText ++ decimal r ++ atText ++ decimal n ++ newline
 
-module _ (b : List ℕ) (k : ℕ) (parts symbols : List ℕ) where
-  -- "Header"
-  abbrev pub header : List ℕ
-  header = treesText ++ decimal k ++ bytesText ++ decimal (length b) ++ partsText ++ decimal (partCount parts symbols) ++ symbolsText ++ decimal (length symbols) ++ newline
+-- "Header", by the number of trees, bytes, parts and symbols
+abbrev pub header : ℕ → ℕ → ℕ → ℕ → List ℕ
+header trees bytes parts symbols =
+    treesText ++ decimal trees ++ bytesText ++ decimal bytes ++ partsText ++ decimal parts ++ symbolsText ++ decimal symbols ++ newline
 
+-- "then tree number, first byte, depth, sort", the sort by word 0 of the tree
+abbrev pub line : ℕ → ℕ → ℕ → ℕ → List ℕ
+line n place depth sort = decimal n ++ gap ++ decimal place ++ gap ++ decimal depth ++ gap ++ sortText sort ++ newline
+
+-- the lines of any reader's trees; sort tells a tree's word 0
+module _ {Tree : Type 0} (S : Shape Tree) (sort : Tree → ℕ) (R : Reader Tree) where
   -- "the root counting 1": the subtrees around tree n, and one more
   abbrev pub depthOf : ℕ → ℕ
-  depthOf n = around wordShape (listing wordShape (ownReader b k parts symbols)) n n + 1
+  depthOf n = around S (listing S R) n n + 1
 
-  -- "then tree number, first byte, depth, sort"
-  abbrev pub treeLine : ℕ → List ℕ
-  treeLine n =
-      decimal n ++ gap ++ decimal (placeOf wordShape (ownReader b k parts symbols) n) ++ gap ++ decimal (depthOf n) ++ gap ++
-      sortText (getD (listing wordShape (ownReader b k parts symbols) .tree n) 0 0) ++ newline
+  unfoldable pub treeLine : ℕ → List ℕ
+  treeLine n = line n (placeOf S R n) (depthOf n) (sort (listing S R .tree n))
 
   -- the lines of the j trees from tree n on
   unfoldable pub treeLines : ℕ → ℕ → List ℕ
   treeLines zero n = []
   treeLines (suc j) n = treeLine n ++ treeLines j (n + 1)
 
+-- the sort of a tree by its list words
+abbrev pub sortWord : List ℕ → ℕ
+sortWord w = getD w 0 0
+
+-- the lines of a buffer's trees
+abbrev pub bufferLines : List ℕ → ℕ → List ℕ → List ℕ → List ℕ
+bufferLines b k parts symbols = treeLines wordShape sortWord (ownReader b k parts symbols) k 0
+
 abbrev pub bundleText : BundleRead → Verdict → List ℕ
 bundleText r (refused x n) = refusalLine x n
-bundleText (bundle B) passed = header (B .bytes) (B .trees) (B .parts) (B .symbols) ++ treeLines (B .bytes) (B .trees) (B .parts) (B .symbols) (B .trees) 0
+bundleText (bundle B) passed =
+    header (B .trees) (length (B .bytes)) (partCount (B .parts) (B .symbols)) (length (B .symbols)) ++ bufferLines (B .bytes) (B .trees) (B .parts) (B .symbols)
 -- no bad bundle is passed
 bundleText badBundle passed = refusalLine 1 0
 

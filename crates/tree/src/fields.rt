@@ -22,7 +22,7 @@ fn span_fits(span: PackedSpan) -> bool
 }
 
 // A scalar value of Unicode.
-fn is_scalar(c: u32) -> bool
+pub fn is_scalar(c: u32) -> bool
     ensures { λ r. ⌜ r ≡ isScalar c ⌝ }
 {
     if c <= 0xD7FF {

@@ -1,0 +1,16 @@
+-- ---- one law for each return
+pub mod StateReturns
+pub mod RangeReturns
+pub mod StoreReturns
+pub mod StepReturns
+pub mod TakenReturns
+pub mod RestoreReturns
+pub mod BuildReturns
+-- ---- the array of open trees, a pushed leaf, an answered verdict
+pub mod Numbers
+pub mod Pushed
+pub mod Answers
+-- ---- what the steps mean
+pub mod Seen
+pub mod Runs
+pub mod RunBuilds

@@ -1,0 +1,39 @@
+// Stores into the lent run.
+use tree::types::Span;
+ghost use mathlib.Core.Path.{_≡_};
+ghost use Prim.Native.Nat.{_+_, _*_, _-_, _≤_, _<_};
+ghost use lib.ListN.{length};
+ghost use Rattle.format.specs.Word.{put};
+ghost use Rattle.format.specs.WordList.{listCount};
+ghost use Rattle.format.specs.Root.{fiveWords};
+ghost use Rattle.format.specs.Builder.{closeTree};
+ghost use Rattle.builder.specs.Given.{wordsOf};
+ghost use Rattle.builder.specs.State.{closedAt};
+
+pub fn put_words(list: &mut [u32], at: usize, words: &[u32])
+    requires { ⌜ at + length (now words) ≤ length (now list) ⌝ }
+    ensures { λ _. ⌜ now (list .exit) ≡ put (now (list .entry)) at (now (words .entry)) ⌝ }
+{
+    let mut i: usize = 0;
+    while i < words.len() {
+        list[at + i] = words[i];
+        i = i + 1;
+    }
+}
+
+// The descendant count and the close span of tree m, and nothing else.
+pub fn close_tree(list: &mut [u32], m: usize, count: u32, closing: Span)
+    requires { ⌜ m < listCount (now list) ⌝ }
+    ensures { λ _. ⌜ now (list .exit) ≡ closedAt (now (list .entry)) m count (wordsOf closing) ⌝ }
+{
+    let one = [count];
+    put_words(list, 13 * m + 1, &one);
+    let words = [
+        closing.file,
+        closing.ast_id,
+        closing.context,
+        closing.start,
+        closing.len,
+    ];
+    put_words(list, 13 * m + 8, &words);
+}

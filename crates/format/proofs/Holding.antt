@@ -1,0 +1,160 @@
+-- A list with its root taken to hold all others: what the writer's rows and bytes say of it can be read off the list as it stands.
+use Prim.Native.Nat.{ℕ, zero, suc, _+_, _*_, _-_, _/_, _≤_, _<_}
+use mathlib.Core.Bool.{Bool, true, false, _&&_, _||_}
+use mathlib.Core.Path.{_≡_, refl, sym, ap, _∙_}
+use mathlib.Core.List.{List, [], _∷_}
+use native.Mathlib.Omega.{arith}
+use borrow.Author.Tests.{le-ltb, eq-eqb, ne-eqb, eqb-true, eqb-false}
+use lib.Dec.{eqb, ltb, leb}
+use lib.ListN.{length, take, getD}
+use lib.Seq.{ext-getD, length-take-le}
+use Rattle.format.specs.Test.{if_then_else_}
+use Rattle.format.specs.Verdict.{Verdict, passed, refused, _andThen_, rule, eachFrom, each}
+use Rattle.format.specs.Word.{put}
+use Rattle.format.specs.Plain.{Listing, endOf, sub}
+use Rattle.format.specs.Nest.{stillOpen, innermost, nestFrom, nest}
+use Rattle.format.specs.Buffer.{wordShape}
+use Rattle.format.specs.Tables.{partCount, indexedBelow}
+use Rattle.format.specs.WordList.{wordOf, thirteen, rawFrom, wordFields, listCount, given, rowTwo, listRules}
+use Rattle.format.specs.Writer.{partIndex, symbolIndex, rawOf, raws, present, rowFive}
+use Rattle.format.specs.Builder.{Builder, buildList}
+use Rattle.format.specs.Holding.{holdingAll}
+use Rattle.format.proofs.Put.{put-length, put-before, put-at, put-after}
+
+-- what `build` hands to the writer
+pub build-holds : (l : List ℕ) (b : Builder) → 1 ≤ b .count → b .count ≤ listCount l → holdingAll (take (13 * b .count) l) ≡ buildList l b
+unfolding buildList holdingAll
+build-holds l b h k =
+    let e : length (take (13 * b .count) l) ≡ 13 * b .count = length-take-le (13 * b .count) l (omega arith) in
+    let c : listCount (take (13 * b .count) l) ≡ b .count = rw e (omega arith) in
+    rw c
+
+module _ (l : List ℕ) (some : 1 ≤ listCount l) where
+  fits : 1 + 1 ≤ length l
+  fits = omega arith
+
+  pub holding-length : length (holdingAll l) ≡ length l
+  unfolding holdingAll
+  holding-length = put-length l 1 ((listCount l - 1) ∷ []) fits
+
+  pub holding-count : listCount (holdingAll l) ≡ listCount l
+  holding-count = ap (λ n. n / 13) holding-length
+
+  -- ---- the words
+
+  pub holding-root : getD (holdingAll l) 1 0 ≡ listCount l - 1
+  unfolding holdingAll
+  holding-root = put-at l 1 ((listCount l - 1) ∷ []) fits 0 (omega arith)
+
+  pub holding-other : (i : ℕ) → (i ≡ 1 → ⊥) → getD (holdingAll l) i 0 ≡ getD l i 0
+  unfolding holdingAll
+  holding-other zero f = put-before l 1 ((listCount l - 1) ∷ []) fits 0 (omega arith)
+  holding-other (suc zero) f = absurd (f refl)
+  holding-other (suc (suc i)) f = put-after l 1 ((listCount l - 1) ∷ []) fits (suc (suc i)) (omega arith)
+
+  not-one : (n j : ℕ) → 1 ≤ n → 13 * n + j ≡ 1 → ⊥
+  not-one n j h e = omega arith
+
+  -- of every tree but the root
+  pub holding-words : (n : ℕ) → 1 ≤ n → wordOf (holdingAll l) n ≡ wordOf l n
+  holding-words n h = λ i j. holding-other (13 * n + j) (not-one n j h) i
+
+  -- where the stored count is right, it is the list itself
+  pub holding-same : getD l 1 0 ≡ listCount l - 1 → holdingAll l ≡ l
+  holding-same e = ext-getD 0 (holdingAll l) l holding-length (λ i h. go i (eqb i 1) refl)
+    where
+      go : (i : ℕ) (x : Bool) → eqb i 1 ≡ x → getD (holdingAll l) i 0 ≡ getD l i 0
+      go i true t = let q = eqb-true i 1 t in rw q (holding-root ∙ sym e)
+      go i false t = holding-other i (eqb-false i 1 t)
+
+  -- ---- row 5 and the trees with their indices
+
+  module _ (parts symbols : List ℕ) where
+    pub holding-raw : (n : ℕ) → 1 ≤ n → rawOf parts symbols (holdingAll l) n ≡ rawOf parts symbols l n
+    holding-raw n h =
+        ap (λ (w : ℕ → ℕ). if eqb n 0 then rawFrom (partCount parts symbols - 2) (partCount parts symbols - 1) 0 w else
+        rawFrom (partIndex parts symbols (w 3) (w 4) (w 5)) (partIndex parts symbols (w 8) (w 9) (w 10)) (symbolIndex parts symbols (w 1)) w) (holding-words n h)
+
+    pub holding-raws : (j n : ℕ) → 1 ≤ n → raws parts symbols (holdingAll l) j n ≡ raws parts symbols l j n
+    unfolding raws
+    holding-raws zero n h = refl
+    holding-raws (suc j) n h = rw (holding-raw n h, holding-raws j (n + 1) (omega arith))
+
+    pub holding-present : (n : ℕ) → present parts symbols (holdingAll l) n ≡ present parts symbols l n
+    holding-present zero =
+        let e₃ = holding-other 3 (λ e. absurd (omega arith)) in
+        let e₄ = holding-other 4 (λ e. absurd (omega arith)) in
+        let e₅ = holding-other 5 (λ e. absurd (omega arith)) in
+        let e₈ = holding-other 8 (λ e. absurd (omega arith)) in
+        let e₉ = holding-other 9 (λ e. absurd (omega arith)) in
+        let e₁₀ = holding-other 10 (λ e. absurd (omega arith)) in
+        rw (e₃, e₄, e₅, e₈, e₉, e₁₀)
+    holding-present (suc n) =
+        let e : eqb (suc n) 0 ≡ false = ne-eqb (suc n) 0 (λ q. absurd (omega arith)) in
+        simp e (ap (λ (w : ℕ → ℕ). indexedBelow (partCount parts symbols) (length symbols)
+        (rawFrom (partIndex parts symbols (w 3) (w 4) (w 5)) (partIndex parts symbols (w 8) (w 9) (w 10)) (symbolIndex parts symbols (w 1)) w)) (holding-words (suc n) (omega arith)))
+
+    pub holding-five : (j n : ℕ) → eachFrom (rowFive parts symbols (holdingAll l)) j n ≡ eachFrom (rowFive parts symbols l) j n
+    holding-five j n = ap (λ (f : ℕ → Verdict). eachFrom f j n) (λ i m. rule (holding-present m i) 5 m)
+
+  -- ---- rows 2 to 4, where tree 0 is a subtree
+
+  module _ (root : getD l 0 0 ≡ 3) where
+    root-there : getD (holdingAll l) 0 0 ≡ 3
+    root-there = holding-other 0 (λ e. absurd (omega arith)) ∙ root
+
+    pub holding-fields : (n : ℕ) → wordFields (wordOf (holdingAll l) n) ≡ wordFields (wordOf l n)
+    unfolding rawFrom
+    holding-fields zero =
+        let e₀ = root-there in
+        let e₂ = holding-other 2 (λ e. absurd (omega arith)) in
+        let e₆ = holding-other 6 (λ e. absurd (omega arith)) in
+        let e₇ = holding-other 7 (λ e. absurd (omega arith)) in
+        let e₁₁ = holding-other 11 (λ e. absurd (omega arith)) in
+        let e₁₂ = holding-other 12 (λ e. absurd (omega arith)) in
+        rw (e₀, root) (rw (e₂, e₆, e₇, e₁₁, e₁₂))
+    holding-fields (suc n) = ap wordFields (holding-words (suc n) (omega arith))
+
+    holding-two : each (rowTwo (holdingAll l)) (listCount (holdingAll l)) ≡ each (rowTwo l) (listCount l)
+    holding-two = λ i. each (λ m. rule (holding-fields m i) 2 m) (holding-count i)
+
+    -- below the root, under any ends
+    pub holding-below : (j n : ℕ) (es : List ℕ) → 1 ≤ n → nestFrom wordShape (given (holdingAll l)) j n es ≡ nestFrom wordShape (given l) j n es
+    unfolding nestFrom
+    holding-below zero n es h = refl
+    holding-below (suc j) n es h =
+        let w₀ = holding-other (13 * n + 0) (not-one n 0 h) in
+        let w₁ = holding-other (13 * n + 1) (not-one n 1 h) in
+        let c = holding-length in
+        let e₁ = holding-below j (n + 1) (endOf wordShape (given l) n ∷ stillOpen n es) (omega arith) in
+        let e₂ = holding-below j (n + 1) (stillOpen n es) (omega arith) in
+        rw (w₀, w₁, c, e₁, e₂)
+
+    root-end : endOf wordShape (given (holdingAll l)) 0 ≡ listCount l
+    root-end = let e = holding-root in rw e (omega arith)
+
+    root-sub : sub wordShape (given (holdingAll l)) 0 ≡ true
+    root-sub = let e = root-there in rw e
+
+    -- the root passes, and all others are to lie in it
+    root-first : (j : ℕ) → nestFrom wordShape (given (holdingAll l)) (suc j) 0 [] ≡ nestFrom wordShape (given (holdingAll l)) j 1 (listCount l ∷ [])
+    unfolding nestFrom stillOpen
+    root-first j =
+        let s = root-sub in
+        let e = root-end in
+        let c = holding-count in
+        let y = le-ltb (listCount (holdingAll l)) (endOf wordShape (given (holdingAll l)) 0) (omega arith) in
+        simp (s, y) (ap (λ m. nestFrom wordShape (given (holdingAll l)) j 1 (m ∷ [])) e)
+
+    holding-nest : nest wordShape (given (holdingAll l)) ≡ nestFrom wordShape (given l) (listCount l - 1) 1 (listCount l ∷ [])
+    holding-nest =
+        let s = root-sub in
+        let e = root-end in
+        let c = holding-count in
+        let k : listCount (holdingAll l) ≡ suc (listCount l - 1) = omega arith in
+        let x = eq-eqb (endOf wordShape (given (holdingAll l)) 0) (listCount (holdingAll l)) (e ∙ sym c) in
+        simp (s, x) (ap (λ m. nestFrom wordShape (given (holdingAll l)) m 0 []) k ∙ root-first (listCount l - 1) ∙ holding-below (listCount l - 1) 1 (listCount l ∷ []) (omega arith))
+
+    pub holding-rules : listRules (holdingAll l) ≡ (each (rowTwo l) (listCount l) andThen nestFrom wordShape (given l) (listCount l - 1) 1 (listCount l ∷ []))
+    unfolding listRules
+    holding-rules = λ i. holding-two i andThen holding-nest i

@@ -1,0 +1,10 @@
+-- ---- the subtrees around a tree
+pub mod Opened
+-- ---- what is listed, by the sizes of the tables, and how long it is
+pub mod Listed
+pub mod Length
+pub mod BySizes
+-- ---- one law for each return
+pub mod LinesReturns
+pub mod DepthReturns
+pub mod ListReturns

@@ -1,0 +1,3 @@
+pub mod BySizes
+pub mod Ends
+pub mod TreePut
