@@ -4,26 +4,21 @@ use mathlib.Core.Bool.{Bool, true, false, not, _&&_}
 use mathlib.Core.Path.{_≡_, refl, sym, ap, _∙_}
 use mathlib.Core.List.{List, []}
 use native.Mathlib.Omega.{arith}
-use borrow.Author.Tests.{eq-eqb, ne-eqb, not-true, not-false}
-use lib.Dec.{eqb}
+use borrow.Author.Tests.{lt-ltb, le-ltb, eq-eqb, ne-eqb, eqb-true, eqb-false, not-true, not-false}
+use lib.Dec.{ltb, eqb}
 use lib.ListN.{length, getD}
 use Rattle.format.specs.Test.{if_then_else_}
 use Rattle.format.specs.Verdict.{passed, refused, eachFrom}
-use Rattle.format.specs.Tree.{Raw}
-use Rattle.format.specs.Tables.{indexedBelow, rowEight}
+use Rattle.format.specs.Tables.{indexedBelow}
 use Rattle.format.specs.WordList.{wordOf, rawFrom, listCount}
 use Rattle.format.specs.Writer.{find, isPart, present, rawOf}
-use Rattle.format.proofs.First.{find-at, find-from, find-to}
-use Rattle.tree.specs.Raw.{rawTree}
-use Rattle.tree.specs.Raw as tree
+use Rattle.format.proofs.First.{find-at, find-to}
 use Rattle.tree.specs.Refusal.{verdictAnswer}
-use Rattle.tree.specs.declared.raw.RawTree.{RawTree}
 use Rattle.tree.specs.declared.refusal.Verdict.{Verdict}
 use Rattle.tree.specs.declared.refusal.Verdict.the-variants.{Passed}
-use Rattle.tree.proofs.WordsReturns.{words-raw}
-use Rattle.writer.specs.Run.{Kept, Run, absent, firstAbsent}
+use Rattle.writer.specs.Run.{Run, absent, firstAbsent}
 use Rattle.writer.specs.Tail.{fiveFrom}
-use Rattle.writer.proofs.RunLaw.{run-tree, run-cases}
+use Rattle.writer.proofs.RunLaw.{first-word, run-tree, run-cases}
 
 -- ---- a part, and the root's two
 
@@ -61,25 +56,78 @@ pub ruleset root-cases = (root-not-open, root-both)
 
 -- ---- a tree below the root
 
-row-eight-zero : (b : Bool) → (_≡_ {A = ℕ} (if b then 0 else 8) 0 → ⊥) → b ≡ false
-row-eight-zero true h = absurd (h refl)
-row-eight-zero false h = refl
+and-true : (b : Bool) → (b && true) ≡ b
+and-true true = refl
+and-true false = refl
 
-row-eight-one : (b : Bool) → _≡_ {A = ℕ} (if b then 0 else 8) 0 → b ≡ true
-row-eight-one true h = refl
-row-eight-one false h = absurd (omega arith)
+-- what a sort asks for besides the open part
+abbrev alsoIn : ℕ → ℕ → ℕ → ℕ → ℕ → Bool
+alsoIn P S c y sort = if eqb sort 0 then true else (if ltb 2 sort then ltb (c + 2) P else ltb y S)
 
-module _ (l : List ℕ) (n P S o c y : ℕ) (t : RawTree) (e : t ≡ rawTree (rawFrom o c y (wordOf l n))) (x : ℕ) (f : x ≡ rowEight P S 1 (tree.rawOf t)) where
-  eight : x ≡ (if indexedBelow P S (rawFrom o c y (wordOf l n)) then 0 else 8)
-  eight = f ∙ ap (rowEight P S 1) (words-raw l n o c y t e)
+module _ (P S o c y : ℕ) (w : ℕ → ℕ) where
+  by-sort : indexedBelow P S (rawFrom o c y w) ≡ (ltb (o + 2) P && alsoIn P S c y (w 0))
+  unfolding rawFrom
+  by-sort = go (eqb (w 0) 0) (eqb (w 0) 1) (eqb (w 0) 2) refl refl refl
+    where
+      go : (x₀ x₁ x₂ : Bool) → eqb (w 0) 0 ≡ x₀ → eqb (w 0) 1 ≡ x₁ → eqb (w 0) 2 ≡ x₂ → indexedBelow P S (rawFrom o c y w) ≡ (ltb (o + 2) P && alsoIn P S c y (w 0))
+      go true x₁ x₂ e₀ e₁ e₂ = simp e₀ (sym (and-true (ltb (o + 2) P)))
+      go false true x₂ e₀ e₁ e₂ =
+          let a = eqb-true (w 0) 1 e₁ in
+          let z : ltb 2 (w 0) ≡ false = le-ltb 2 (w 0) (omega arith) in
+          simp (e₀, e₁, z)
+      go false false true e₀ e₁ e₂ =
+          let a = eqb-true (w 0) 2 e₂ in
+          let z : ltb 2 (w 0) ≡ false = le-ltb 2 (w 0) (omega arith) in
+          simp (e₀, e₁, e₂, z)
+      go false false false e₀ e₁ e₂ =
+          let a = eqb-false (w 0) 0 e₀ in
+          let b = eqb-false (w 0) 1 e₁ in
+          let d = eqb-false (w 0) 2 e₂ in
+          let z : ltb 2 (w 0) ≡ true = lt-ltb 2 (w 0) (omega arith) in
+          simp (e₀, e₁, e₂, z)
 
-  pub not-present : (x ≡ 0 → ⊥) → false ≡ indexedBelow P S (rawFrom o c y (wordOf l n))
-  not-present h = sym (row-eight-zero (indexedBelow P S (rawFrom o c y (wordOf l n))) (λ q. h (eight ∙ q)))
+module _ (l : List ℕ) (n P S o c y x : ℕ) (e : x ≡ o) where
+  abbrev placed : Bool
+  placed = indexedBelow P S (rawFrom o c y (wordOf l n))
 
-  pub is-present : x ≡ 0 → true ≡ indexedBelow P S (rawFrom o c y (wordOf l n))
-  is-present h = sym (row-eight-one (indexedBelow P S (rawFrom o c y (wordOf l n))) (sym eight ∙ h))
+  pub open-absent : P ≤ x + 2 → false ≡ placed
+  open-absent h = let a : ltb (o + 2) P ≡ false = le-ltb (o + 2) P (omega arith) in sym (by-sort P S o c y (wordOf l n) ∙ simp a)
 
-pub ruleset present-cases = (not-present, is-present)
+  module _ (h : x + 2 < P) where
+    open-in : ltb (o + 2) P ≡ true
+    open-in = lt-ltb (o + 2) P (omega arith)
+
+    with-open : (b : Bool) → alsoIn P S c y (wordOf l n 0) ≡ b → b ≡ placed
+    with-open b f = sym (by-sort P S o c y (wordOf l n) ∙ simp (open-in, f))
+
+    pub punct-present : getD l (13 * n) 0 ≡ 0 → true ≡ placed
+    punct-present k = let z : eqb (wordOf l n 0) 0 ≡ true = eq-eqb _ _ (first-word l n ∙ k) in with-open true (simp z)
+
+    module _ (k : getD l (13 * n) 0 ≡ 0 → ⊥) where
+      no-punct : eqb (wordOf l n 0) 0 ≡ false
+      no-punct = ne-eqb _ _ (λ q. k (sym (first-word l n) ∙ q))
+
+      module _ (i : 2 < getD l (13 * n) 0) (v : ℕ) (g : v ≡ c) where
+        is-subtree : ltb 2 (wordOf l n 0) ≡ true
+        is-subtree = let a = first-word l n in lt-ltb 2 (wordOf l n 0) (omega arith)
+
+        pub close-absent : P ≤ v + 2 → false ≡ placed
+        close-absent j = let a : ltb (c + 2) P ≡ false = le-ltb (c + 2) P (omega arith) in with-open false (simp (no-punct, is-subtree, a))
+
+        pub close-present : v + 2 < P → true ≡ placed
+        close-present j = let a : ltb (c + 2) P ≡ true = lt-ltb (c + 2) P (omega arith) in with-open true (simp (no-punct, is-subtree, a))
+
+      module _ (i : getD l (13 * n) 0 ≤ 2) (v : ℕ) (g : v ≡ y) where
+        no-subtree : ltb 2 (wordOf l n 0) ≡ false
+        no-subtree = let a = first-word l n in le-ltb 2 (wordOf l n 0) (omega arith)
+
+        pub symbol-absent : S ≤ v → false ≡ placed
+        symbol-absent j = let a : ltb y S ≡ false = le-ltb y S (omega arith) in with-open false (simp (no-punct, no-subtree, a))
+
+        pub symbol-present : v < S → true ≡ placed
+        symbol-present j = let a : ltb y S ≡ true = lt-ltb y S (omega arith) in with-open true (simp (no-punct, no-subtree, a))
+
+pub ruleset present-cases = (open-absent, punct-present, close-absent, close-present, symbol-absent, symbol-present)
 
 -- ---- a run
 
@@ -119,7 +167,10 @@ module _ (p s l : List ℕ) where
 pub run-low : (p s l : List ℕ) (from stop : ℕ) (os cs ys : List ℕ) → Run p s l from stop os cs ys → from ≤ stop
 run-low p s l from stop os cs ys r = r .some
 
-pub ruleset absent-cases = (run-low, absent-ends, absent-found, absent-goes)
+pub run-last : (p s l : List ℕ) (from stop n : ℕ) (os cs ys : List ℕ) → Run p s l from stop os cs ys → n < stop → n < listCount l
+run-last p s l from stop n os cs ys r h = let a = r .last in omega arith
+
+pub ruleset absent-cases = (run-low, run-last, absent-ends, absent-found, absent-goes)
 
 -- ---- the whole list
 

@@ -1,13 +1,18 @@
 -- Runs of trees: what a chunk of indices says of its trees, and slots and arrays that keep their lengths.
-use Prim.Native.Nat.{ℕ, _+_, _-_, _≤_, _<_}
+use Prim.Native.Nat.{ℕ, _+_, _*_, _-_, _≤_, _<_}
 use mathlib.Core.Path.{_≡_, refl, sym, ap, _∙_, subst}
 use mathlib.Core.List.{List}
 use native.Mathlib.Omega.{arith}
+use native.Mathlib.Nat.{add-zero}
 use lib.ListN.{length, getD}
 use Rattle.format.specs.WordList.{wordOf, rawFrom, listCount}
 use Rattle.format.specs.Writer.{rawOf}
 use Rattle.places.specs.Places.{Roomy, Indexed, Resolved}
 use Rattle.writer.specs.Run.{Lent, Ready, Kept, Run}
+
+-- the sort of tree n
+pub first-word : (l : List ℕ) (n : ℕ) → wordOf l n 0 ≡ getD l (13 * n) 0
+first-word l n = ap (λ i. getD l i 0) (add-zero (13 * n))
 
 -- tree n of a run
 pub run-tree : (p s l : List ℕ) (from stop n : ℕ) (os cs ys : List ℕ) → Run p s l from stop os cs ys → from ≤ n → n < stop

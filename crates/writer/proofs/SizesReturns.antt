@@ -5,7 +5,6 @@ use mathlib.Core.Path.{_≡_, refl, sym, ap, _∙_}
 use mathlib.Core.List.{List, []}
 use mathlib.Core.Logic.{⊎-elim}
 use native.Mathlib.Omega.{arith}
-use native.Mathlib.Nat.{add-zero}
 use borrow.Author.Tests.{eq-eqb, ne-eqb, eqb-true, eqb-false}
 use lib.Dec.{eqb}
 use lib.ListN.{length, getD, set, length-set}
@@ -27,7 +26,7 @@ use Rattle.writer.specs.Tail.{sizeFrom, kidsOf, bytesAt}
 use Rattle.writer.specs.Run.{Run, countIn, childrenIn, Spanned, Sized, Beyond}
 use Rattle.writer.specs.Written.{Passed}
 use Rattle.writer.proofs.TailLaw.{size-is, size-falls, size-most, size-end, some-trees, most-trees, raw-ends, root-size}
-use Rattle.writer.proofs.RunLaw.{run-tree, run-cases}
+use Rattle.writer.proofs.RunLaw.{first-word, run-tree, run-cases}
 
 -- ---- the descendants of a tree
 
@@ -65,16 +64,13 @@ count-subtree w h =
     simp (a, b, c)
 
 module _ (l : List ℕ) (n : ℕ) where
-  first-word : wordOf l n 0 ≡ getD l (13 * n) 0
-  first-word = ap (λ i. getD l i 0) (add-zero (13 * n))
-
   leaf-count : getD l (13 * n) 0 < 3 → countIn l n ≡ 0
   unfolding countIn
-  leaf-count h = let e = first-word in count-leaf (wordOf l n) (omega arith)
+  leaf-count h = let e = first-word l n in count-leaf (wordOf l n) (omega arith)
 
   subtree-count : 3 ≤ getD l (13 * n) 0 → countIn l n ≡ getD l (13 * n + 1) 0
   unfolding countIn
-  subtree-count h = let e = first-word in count-subtree (wordOf l n) (omega arith)
+  subtree-count h = let e = first-word l n in count-subtree (wordOf l n) (omega arith)
 
 bytes-eq : (a b : ℕ) → a ≡ b → _≡_ {A = ChildrenBytes} (record { 0 = a }) (record { 0 = b })
 bytes-eq a b e = rw e

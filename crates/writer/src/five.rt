@@ -1,9 +1,8 @@
 // Row 5 of a list that rows 1 to 4 pass: its parts and symbols have places in their tables.
 use list::sized::refused;
 use places::resolve::resolve;
-use decode::judge::row_eight;
+use tree::raw::place;
 use tree::refusal::Verdict;
-use tree::words::raw_from_words;
 ghost use mathlib.Core.Path.{_≡_};
 ghost use mathlib.Core.List.{[]};
 ghost use Prim.Native.Nat.{_+_, _*_, _/_, _<_, _≤_};
@@ -46,7 +45,7 @@ pub fn root_present(l: &[u32], parts: &[u32]) -> bool
     is_part(parts, count - 1, l, 8)
 }
 
-// Whether the indices of tree n, below the root, are places in tables of these sizes.
+// Whether the indices of tree n, below the root, are places in tables of these sizes: the last two parts are the root's.
 fn is_present(
     l: &[u32],
     n: usize,
@@ -56,11 +55,24 @@ fn is_present(
     close_index: u32,
     symbol_index: u32,
 ) -> bool
+    requires { ⌜ n < listCount (now l) ⌝ }
     ensures { λ r. ⌜ r ≡ indexedBelow parts symbols
         (rawFrom «open_index» «close_index» «symbol_index» (wordOf (now (l .entry)) n)) ⌝ }
 {
-    let tree = raw_from_words(l, n, open_index, close_index, symbol_index);
-    if row_eight(parts, symbols, 1, tree) != 0 {
+    if parts <= place(open_index) + 2 {
+        return false;
+    }
+    let sort = l[13 * n];
+    if sort == 0 {
+        return true;
+    }
+    if 2 < sort {
+        if parts <= place(close_index) + 2 {
+            return false;
+        }
+        return true;
+    }
+    if symbols <= place(symbol_index) {
         return false;
     }
     true
