@@ -50,12 +50,14 @@ module _ (b : List ℕ) (k : ℕ) (parts symbols : List ℕ) where
       → (inWords (a, h′) ≡ cursorStep wordShape O call (heldAs h)) × Full h′
   moved-on call h a h′ full m =
       let w : answerWords a ≡ cursorStep wordShape O call (heldAs h) .0 = ap answerWords (m .said) ∙ m .moves .words in
-      let n = m .moves .next full in
-      ((λ i. (w i, n i)), record {
-        numbers = ap length (m .moves .numbers) ∙ written-length _ _ _ _ ∙ full .numbers;
-        counts = ap length (m .moves .counts) ∙ written-length _ _ _ _ ∙ full .counts;
-        places = ap length (m .moves .places) ∙ written-length _ _ _ _ ∙ full .places;
-      })
+      let n = m .moves .next full in (
+        (λ i. (w i, n i)),
+        record {
+          numbers = ap length (m .moves .numbers) ∙ written-length _ _ _ _ ∙ full .numbers;
+          counts = ap length (m .moves .counts) ∙ written-length _ _ _ _ ∙ full .counts;
+          places = ap length (m .moves .places) ∙ written-length _ _ _ _ ∙ full .places;
+        },
+      )
 
   -- one call over every buffer, any cursor
   pub handed-is : (call : CursorCall) (h : Held) (a : Answer TokenTree) (h′ : Held) → Full h → Handed b k parts symbols call h a h′

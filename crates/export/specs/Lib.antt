@@ -1,2 +1,5 @@
 pub mod Code
 pub mod Replies
+pub mod Steps
+pub mod Roots
+pub mod Cursors

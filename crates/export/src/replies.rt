@@ -5,7 +5,10 @@ use tree::refusal::Verdict;
 ghost use mathlib.Core.Path.{_≡_};
 ghost use Rattle.export.specs.Replies.{refusedCode, verdictCode, reportCode};
 
-fn refused_code(r: Refusal) -> u64
+// Refusal 6 at tree 0.
+pub const TOO_SHORT: u64 = 9223372062624579584;
+
+pub fn refused_code(r: Refusal) -> u64
     ensures { λ c. ⌜ c ≡ refusedCode r ⌝ }
 {
     9223372036854775808 + 4294967296 * ((r.number % 2147483648) as u64) + (r.tree as u64)

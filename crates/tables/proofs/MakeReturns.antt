@@ -54,9 +54,10 @@ pub ruleset root-cases = (three-stored, root-stored)
 ample-room : (l : List ℕ) (s : Bool) (more : ℕ) (w t : List ℕ) → ample s (length (keysOf l s)) more (length w) (length t) ≡ true
     → (placeIn s (length (keysOf l s)) + more ≤ length w) × (length (keysOf l s) ≤ length t)
 unfolding ample
-ample-room l s more w t e =
-    (leb-true _ _ (and-left (leb (placeIn s (length (keysOf l s)) + more) (length w)) (leb (length (keysOf l s)) (length t)) e),
-    leb-true _ _ (and-right (leb (placeIn s (length (keysOf l s)) + more) (length w)) (leb (length (keysOf l s)) (length t)) e))
+ample-room l s more w t e = (
+  leb-true _ _ (and-left (leb (placeIn s (length (keysOf l s)) + more) (length w)) (leb (length (keysOf l s)) (length t)) e),
+  leb-true _ _ (and-right (leb (placeIn s (length (keysOf l s)) + more) (length w)) (leb (length (keysOf l s)) (length t)) e),
+)
 
 pub room-ample : (l : List ℕ) (s : Bool) (more : ℕ) (w t : List ℕ) → ample s (length (keysOf l s)) more (length w) (length t) ≡ true → Room l s w t
 room-ample l s more w t e = let q = ample-room l s more w t e in record { words = omega (arith, q .0); tallies = q .1 }

@@ -30,7 +30,15 @@ fn next_slot(s: usize, size: usize) -> usize
 }
 
 // Looks for key v from a slot on, among p ranks.
-fn look(l: &[u32], symbols: bool, v: usize, p: usize, table: &[u32], firsts: &[u32], start: usize) -> Looked
+fn look(
+    l: &[u32],
+    symbols: bool,
+    v: usize,
+    p: usize,
+    table: &[u32],
+    firsts: &[u32],
+    start: usize,
+) -> Looked
     requires { ⌜ (v < keyCount (now l) symbols) × (keyCount (now l) symbols < 4294967295) ⌝ }
     requires { ⌜ (start < length (now table)) × (p ≤ length (now firsts)) ⌝ }
     requires { ⌜ UpTo p (now table) × Under p (keyCount (now l) symbols) (now firsts) ⌝ }
@@ -55,7 +63,14 @@ fn look(l: &[u32], symbols: bool, v: usize, p: usize, table: &[u32], firsts: &[u
 }
 
 // Key v is the first of rank p, and slot s is its.
-fn join(v: usize, p: usize, s: usize, table: &mut [u32], firsts: &mut [u32], counts: &mut [u32]) -> usize
+fn join(
+    v: usize,
+    p: usize,
+    s: usize,
+    table: &mut [u32],
+    firsts: &mut [u32],
+    counts: &mut [u32],
+) -> usize
     requires { ⌜ (v < 4294967295) × (p < 4294967295) ⌝ }
     ensures { λ r. ⌜ r ≡ p + 1 ⌝ }
     ensures { λ _. ⌜ now (table .exit) ≡ set (now (table .entry)) s (p + 1) ⌝ }

@@ -68,7 +68,10 @@ fn make_both(
 {
     let s = make_table(l, true, symbols, symbol_counts);
     let p = make_parts(l, parts, part_counts);
-    TablesReport::Made { parts: p, symbols: s }
+    TablesReport::Made {
+        parts: p,
+        symbols: s,
+    }
 }
 
 // The tables of a list that has passed rows 1 to 4. Nothing is stored before both are known to have room.

@@ -33,7 +33,14 @@ fn find(l: &[u32], symbols: bool, v: usize, p: usize, words: &[u32]) -> usize
 }
 
 // Key v, which is one, joins the p keys before it or is counted.
-fn scan_key(l: &[u32], symbols: bool, v: usize, p: usize, words: &mut [u32], tallies: &mut [u32]) -> usize
+fn scan_key(
+    l: &[u32],
+    symbols: bool,
+    v: usize,
+    p: usize,
+    words: &mut [u32],
+    tallies: &mut [u32],
+) -> usize
     requires { ⌜ (v < keyCount (now l) symbols) × (keyCount (now l) symbols < 4294967295) × (p < 4294967295) ⌝ }
     requires { ⌜ liveAt (now l) symbols v ≡ true ⌝ }
     requires { ⌜ Gathered (liveAt (now l) symbols) (alikeAt (now l) symbols) v p (now words) (now tallies) ⌝ }
@@ -51,7 +58,14 @@ fn scan_key(l: &[u32], symbols: bool, v: usize, p: usize, words: &mut [u32], tal
     next
 }
 
-fn scan_one(l: &[u32], symbols: bool, v: usize, p: usize, words: &mut [u32], tallies: &mut [u32]) -> usize
+fn scan_one(
+    l: &[u32],
+    symbols: bool,
+    v: usize,
+    p: usize,
+    words: &mut [u32],
+    tallies: &mut [u32],
+) -> usize
     requires { ⌜ (v < keyCount (now l) symbols) × (keyCount (now l) symbols < 4294967295) × (p < 4294967295) ⌝ }
     requires { ⌜ Gathered (liveAt (now l) symbols) (alikeAt (now l) symbols) v p (now words) (now tallies) ⌝ }
     requires { ⌜ Room (now l) symbols (now words) (now tallies) ⌝ }

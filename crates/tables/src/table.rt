@@ -176,7 +176,14 @@ fn large(l: &[u32], symbols: bool, n: usize, words: &mut [u32], tallies: &mut [u
 }
 
 // Small arrays first, then larger ones. The call of itself keeps each class's arrays in a frame of their own.
-fn tries(l: &[u32], symbols: bool, n: usize, level: usize, words: &mut [u32], tallies: &mut [u32]) -> usize
+fn tries(
+    l: &[u32],
+    symbols: bool,
+    n: usize,
+    level: usize,
+    words: &mut [u32],
+    tallies: &mut [u32],
+) -> usize
     requires { ⌜ (n ≡ keyCount (now l) symbols) × (n < 4294967295) ⌝ }
     requires { ⌜ Room (now l) symbols (now words) (now tallies) ⌝ }
     ensures { λ r. ⌜ Made (now (l .entry)) symbols r (now (words .entry)) (now (words .exit)) (now (tallies .entry)) (now (tallies .exit)) ⌝ }

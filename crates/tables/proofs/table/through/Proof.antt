@@ -29,10 +29,16 @@ returns c = search (needs, through-cases)
 
 -- src/table.rt:114:5
 finish-requires : tie.Need-finish-requires
-finish-requires c κs =
-    ((search (needs, through-cases), search (needs, through-cases)), ((search (needs, through-cases), search (needs, through-cases), search (needs, through-cases)), (
-    through-filled _ _ _ _ _ _ _ _ _ (c .before .before .before .before .before .before .before .before .before .before .before .before .before .gather .ensures) (c .before .before .before .before .before .before .if1 .left) _ (c .before .before .before .before .before .before .before .before .before .before .before .before .before .before .before .before .before .before .before .before .before .before .before .before .pre .0 .0) (c .before .before .before .before .before .before .before .before .before .before .before .before .before .gather .kept .1 .1 .1 .1 .1 .0),
-    search (needs, through-cases))))
+finish-requires c κs = (
+  (search (needs, through-cases), search (needs, through-cases)),
+  (
+    (search (needs, through-cases), search (needs, through-cases), search (needs, through-cases)),
+    (
+      through-filled _ _ _ _ _ _ _ _ _ (c .before .before .before .before .before .before .before .before .before .before .before .before .before .gather .ensures) (c .before .before .before .before .before .before .if1 .left) _ (c .before .before .before .before .before .before .before .before .before .before .before .before .before .before .before .before .before .before .before .before .before .before .before .before .pre .0 .0) (c .before .before .before .before .before .before .before .before .before .before .before .before .before .gather .kept .1 .1 .1 .1 .1 .0),
+      search (needs, through-cases),
+    ),
+  ),
+)
 
 -- src/table.rt:91:1
 same-length-4 : tie.Need-same-length-4
