@@ -25,14 +25,7 @@ use Rattle.format.specs.WordList.{wordOf, rawFrom, wordFields}
 use Rattle.tree.specs.Raw.{rawTree, rawOf}
 use Rattle.tree.specs.declared.raw.RawTree.{RawTree}
 use Rattle.tree.proofs.RawAgain.{raw-again}
-use Prim.Native.Nat.{suc}
 use mathlib.Core.List.{_++_}
-use native.Mathlib.Omega.{arith}
-use native.Mathlib.Numerals.{add-one}
-use lib.ListN.{getD, set, take, length-take, length-append}
-use lib.Seq.{take-suc, take-all}
-use Rattle.format.proofs.Put.{put-length}
-use Rattle.pack.proofs.Store.{store-1, put-put, put-none}
 use Rattle.tree.specs.Types.{treeWordsOf}
 use Rattle.decode.specs.Decode.{treeAnswer, decodedAt}
 use Rattle.decode.specs.declared.decode.TreeAt.{TreeAt}
@@ -103,37 +96,6 @@ module _ (b parts symbols : List ℕ) (n at : ℕ) (w : List ℕ) where
     pub tree-some : (y : TreeAt) (ws w′ : List ℕ) → a ≡ trees.Got y → ws ≡ treeWordsOf (y .tree) → w′ ≡ put w 0 (ws ++ y .children .0 ∷ []) → TreeFound b parts symbols n at w (y .next) w′
     tree-some y ws w′ d g q = let t = le-ltb (length w) 14 h in let f = sym e ∙ d in record { reply = simp (t, f); contents = simp (t, f) (q ∙ rw g) }
 
-from-zero : (i : ℕ) → i ≡ 0 + i
-from-zero i = omega arith
-
--- one word more is stored
-pub words-begin : (w f : List ℕ) → w ≡ put w 0 (take 0 f)
-words-begin w f = sym (put-none w 0)
-
-module _ (w f : List ℕ) (l : length f ≡ 13) (g : 13 ≤ length w) where
-  pub words-length : (v : List ℕ) (i : ℕ) → v ≡ put w 0 (take i f) → i ≤ 13 → length v ≡ length w
-  words-length v i e h =
-      let k : length (take i f) ≡ i = simp length-take (omega arith) in
-      ap length e ∙ put-length w 0 (take i f) (omega arith)
-
-  pub words-more : (v : List ℕ) (i : ℕ) → v ≡ put w 0 (take i f) → i < 13 → set v i (getD f i 0) ≡ put w 0 (take (i + 1) f)
-  words-more v i e h =
-      let k : length (take i f) ≡ i = simp length-take (omega arith) in
-      let m : length v ≡ length w = words-length v i e (omega arith) in
-      let s : set v i (getD f i 0) ≡ put v i (getD f i 0 ∷ []) = store-1 v i (getD f i 0) (omega arith) in
-      let p : put (put w 0 (take i f)) i (getD f i 0 ∷ []) ≡ put w 0 (take i f ++ getD f i 0 ∷ []) = ap (λ (j : ℕ). put (put w 0 (take i f)) j (getD f i 0 ∷ [])) (from-zero i) ∙ put-put w 0 i (take i f) (getD f i 0 ∷ []) k (omega arith) in
-      let t : take (i + 1) f ≡ take i f ++ getD f i 0 ∷ [] = rw add-one (take-suc f i 0 (omega arith)) in
-      s ∙ ap (λ (x : List ℕ). put x i (getD f i 0 ∷ [])) e ∙ p ∙ ap (put w 0) (sym t)
-
-  pub words-all : (v : List ℕ) (i : ℕ) → v ≡ put w 0 (take i f) → 13 ≤ i → v ≡ put w 0 f
-  words-all v i e h = e ∙ ap (put w 0) (take-all i f (omega arith))
-
--- the children bytes behind the words
-pub words-then : (w v f : List ℕ) (k : ℕ) → length f ≡ 13 → 14 ≤ length w → v ≡ put w 0 f → set v 13 k ≡ put w 0 (f ++ k ∷ [])
-words-then w v f k l h e =
-    let m : length v ≡ length w = ap length e ∙ put-length w 0 f (omega arith) in
-    store-1 v 13 k (omega arith) ∙ ap (λ (x : List ℕ). put x 13 (k ∷ [])) e ∙ put-put w 0 13 f (k ∷ []) l (omega arith)
-
-pub ruleset tree-cases = (tree-refused, tree-stored, root-stored, tree-few, tree-none, tree-some, words-begin, words-length, words-more, words-all, words-then)
+pub ruleset tree-cases = (tree-refused, tree-stored, root-stored, tree-few, tree-none, tree-some)
 
 pub ruleset export-cases = (code-written, code-refused, span-stored, symbol-stored, span-few, symbol-few, span-none, span-some, symbol-none, symbol-some)

@@ -1,7 +1,7 @@
 // Stored buffers.
+use crate::replies::verdict_code;
 use checker::check::check;
 use checker::check::check_buffer;
-use crate::replies::verdict_code;
 ghost use mathlib.Core.Path.{_≡_};
 ghost use Rattle.format.specs.Check.{check as checked};
 ghost use Rattle.format.specs.Buffer.{rawShape, sizeReader, bufferCheck};

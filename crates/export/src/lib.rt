@@ -1,6 +1,11 @@
 // Functions on slices of numbers, for tests and benchmarks from Rust or C.
 pub mod buffers;
 pub mod lists;
+pub mod by_value;
+pub mod cursors;
 pub mod packing;
 pub mod replies;
+pub mod roots;
 pub mod trees;
+mod unchecked;
+pub mod walks;

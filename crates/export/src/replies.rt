@@ -5,6 +5,9 @@ use tree::refusal::Verdict;
 ghost use mathlib.Core.Path.{_≡_};
 ghost use Rattle.export.specs.Replies.{refusedCode, verdictCode, reportCode};
 
+// Refusal 6 at tree 0.
+pub const TOO_SHORT: u64 = 9223372062624579584;
+
 pub fn refused_code(r: Refusal) -> u64
     ensures { λ c. ⌜ c ≡ refusedCode r ⌝ }
 {

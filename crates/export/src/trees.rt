@@ -1,4 +1,6 @@
 // One tree, by its list words and its indices.
+use crate::packing::code_of;
+use crate::unchecked::store_words;
 use decode::decode::TreeRead;
 use decode::decode::decode;
 use encode::encode::encode;
@@ -10,7 +12,6 @@ use tree::raw::RawSubtree;
 use tree::words::raw_from_words;
 use tree::words::tree_words;
 use tree::words::word_fields;
-use crate::packing::code_of;
 ghost use mathlib.Core.Path.{_≡_};
 ghost use mathlib.Core.List.{_∷_, [], _++_};
 ghost use Prim.Native.Nat.{_≤_};
@@ -80,22 +81,11 @@ pub extern "C" fn tt_encode_top_subtree(
     code_of(p)
 }
 
-fn store_words(words: &mut [u32], from: [u32; 13])
-    requires { ⌜ 13 ≤ length (now words) ⌝ }
-    ensures { λ _. ⌜ now (words .exit) ≡ put (now (words .entry)) 0 from ⌝ }
-{
-    let mut i: usize = 0;
-    while i < 13 {
-        words[i] = from[i];
-        i = i + 1;
-    }
-}
-
 fn store_tree(words: &mut [u32], from: [u32; 13], children: u32)
     requires { ⌜ 14 ≤ length (now words) ⌝ }
     ensures { λ _. ⌜ now (words .exit) ≡ put (now (words .entry)) 0 (from ++ children ∷ []) ⌝ }
 {
-    store_words(words, from);
+    store_words(words, 0, from);
     words[13] = children;
 }
 

@@ -1,0 +1,107 @@
+-- One law for each return of a walk's functions.
+use Prim.Native.Nat.{ℕ, _+_, _<_, _≤_}
+use mathlib.Core.Bool.{Bool, true, false}
+use mathlib.Core.Path.{_≡_, refl, sym, ap, _∙_, subst}
+use mathlib.Core.List.{List, [], _∷_, _++_}
+use borrow.Author.Tests.{lt-ltb, le-ltb}
+use lib.ListN.{length}
+use Rattle.format.specs.Test.{if_then_else_}
+use Rattle.format.specs.Word.{put}
+use Rattle.format.specs.Reader as format
+use Rattle.format.specs.Walk as steps
+use Rattle.format.specs.LastSpan.{lastSpan}
+use Rattle.tree.specs.Types.{spanList, treeWordsOf}
+use Rattle.tree.specs.declared.refusal.Refusal.{Refusal}
+use Rattle.tree.specs.declared.types.Span.{Span}
+use Rattle.tree.specs.declared.types.TokenTree.{TokenTree}
+use Rattle.walk.specs.Source.{answerWords}
+use Rattle.walk.specs.Walk.{walkOf, answerOf, Stepped}
+use Rattle.walk.specs.Last.{lastOf}
+use Rattle.walk.specs.declared.walk.Walk.{Walk}
+use Rattle.walk.specs.declared.walk.Step.{Step}
+use Rattle.walk.specs.declared.walk.Answer.the-variants.{Tree, None, Refused}
+use Rattle.walk.specs.declared.last_span.LastSpan.{LastSpan}
+use Rattle.walk.specs.declared.last_span.LastSpan.the-variants as lasts
+use Rattle.export.specs.Replies.{refusedCode}
+use Rattle.export.specs.Steps.{stepCall, walkList, Replied, StepStored, WalkReplied, LastStored, LastReplied}
+
+-- ---- a step
+
+module _ (b : List ℕ) (k : ℕ) (parts symbols : List ℕ) (w : Walk) (skips : Bool) (s : Step) where
+  pub step-skips : skips ≡ true → Stepped b k parts symbols steps.skip w s → Stepped b k parts symbols (stepCall skips) w s
+  step-skips e h = rw e h
+
+  pub step-advances : skips ≡ false → Stepped b k parts symbols steps.advance w s → Stepped b k parts symbols (stepCall skips) w s
+  step-advances e h = rw e h
+
+pub walk-stored : (w : Walk) (next next′ : List ℕ) (left : ℕ) → (left ≡ w .left) × (left < 4294967296)
+    → next′ ≡ put next 0 (w .place ∷ w .number ∷ left ∷ []) → next′ ≡ put next 0 (walkList w)
+walk-stored w next next′ left e h = h ∙ ap (λ (x : ℕ). put next 0 (w .place ∷ w .number ∷ x ∷ [])) (e .0)
+
+module _ (s : Step) (next words : List ℕ) where
+  pub step-refused : (f : Refusal) (r : ℕ) → s .answer ≡ Refused f → r ≡ refusedCode f → StepStored s next words r next words
+  unfolding answerWords answerOf
+  step-refused f r e q = record { replied = record { reply = simp e q; after = simp e; handed = simp e } }
+
+  module _ (next′ : List ℕ) (n : next′ ≡ put next 0 (walkList (s .walk))) where
+    pub step-none : s .answer ≡ None → StepStored s next words 0 next′ words
+    unfolding answerWords answerOf
+    step-none e = record { replied = record { reply = simp e; after = simp e n; handed = simp e } }
+
+    pub step-tree : (t : TokenTree) (ts words′ : List ℕ) → s .answer ≡ Tree t → ts ≡ treeWordsOf t → words′ ≡ put words 0 ts
+        → StepStored s next words 1 next′ words′
+    unfolding answerWords answerOf
+    step-tree t ts words′ e d q = record { replied = record { reply = simp e; after = simp e n; handed = simp e (q ∙ ap (put words 0) d) } }
+
+module _ (b : List ℕ) (k : ℕ) (parts symbols : List ℕ) (w : Walk) (skips : Bool) (next words : List ℕ) where
+  pub walk-few : length next < 3 → WalkReplied b k parts symbols w skips next words 9223372062624579584 next words
+  walk-few h = let t = lt-ltb (length next) 3 h in record { replied = record { reply = simp t; after = simp t; handed = simp t } }
+
+  module _ (h : 3 ≤ length next) where
+    pub walk-few-words : length words < 13 → WalkReplied b k parts symbols w skips next words 9223372062624579584 next words
+    walk-few-words g =
+        let t = le-ltb (length next) 3 h in
+        let u = lt-ltb (length words) 13 g in
+        record { replied = record { reply = simp (t, u); after = simp (t, u); handed = simp (t, u) } }
+
+    pub walk-replied : 13 ≤ length words → (s : Step) (r : ℕ) (next′ words′ : List ℕ) → Stepped b k parts symbols (stepCall skips) w s
+        → StepStored s next words r next′ words′ → WalkReplied b k parts symbols w skips next words r next′ words′
+    walk-replied g s r next′ words′ e q =
+        let t = le-ltb (length next) 3 h in
+        let u = le-ltb (length words) 13 g in
+        let a = e .words in
+        let p = q .replied in
+        let x = ap (λ (y : format.Answer (List ℕ) × steps.Walk). y .0) a in
+        let z = ap (λ (y : format.Answer (List ℕ) × steps.Walk). y .1) a in
+        record {
+          replied = record {
+            reply = simp (t, u, ← x) (p .reply);
+            after = simp (t, u, ← x, ← z) (p .after);
+            handed = simp (t, u, ← x) (p .handed);
+          };
+        }
+
+-- ---- the last span
+
+module _ (a : LastSpan) (words : List ℕ) where
+  pub last-refused : (f : Refusal) (r : ℕ) → a ≡ lasts.Refused f → r ≡ refusedCode f → LastStored a words r words
+  unfolding lastOf
+  last-refused f r e q = record { reply = simp e q; handed = simp e }
+
+  pub last-none : a ≡ lasts.None → LastStored a words 0 words
+  unfolding lastOf
+  last-none e = record { reply = simp e; handed = simp e }
+
+  pub last-some : (s : Span) (words′ : List ℕ) → a ≡ lasts.Span s → words′ ≡ put words 0 (spanList s) → LastStored a words 1 words′
+  unfolding lastOf
+  last-some s words′ e q = record { reply = simp e; handed = simp e q }
+
+module _ (b : List ℕ) (k : ℕ) (parts symbols : List ℕ) (w : Walk) (words : List ℕ) where
+  pub last-few : length words < 5 → LastReplied b k parts symbols w words 9223372062624579584 words
+  last-few h = let t = lt-ltb (length words) 5 h in record { reply = simp t; handed = simp t }
+
+  pub last-replied : 5 ≤ length words → (a : LastSpan) (r : ℕ) (words′ : List ℕ) → lastOf a ≡ lastSpan b k parts symbols (walkOf w)
+      → LastStored a words r words′ → LastReplied b k parts symbols w words r words′
+  last-replied h a r words′ e q = let t = le-ltb (length words) 5 h in record { reply = simp (t, ← e) (q .reply); handed = simp (t, ← e) (q .handed) }
+
+pub ruleset step-cases = (step-skips, step-advances, walk-stored, step-refused, step-none, step-tree, walk-few, walk-few-words, walk-replied, last-refused, last-none, last-some, last-few, last-replied)
