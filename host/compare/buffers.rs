@@ -2,10 +2,11 @@
 use crate::lists::Maker;
 use crate::plain_buffer::Buffer;
 use crate::plain_list;
-use crate::proved;
+use crate::proved::{self, Lent};
 use crate::random::Random;
 use crate::tally::Tally;
 use crate::tree::loose;
+use tt::TopSubtree;
 
 pub struct Stored {
     pub bytes: Vec<u8>,
@@ -17,6 +18,17 @@ pub struct Stored {
 impl Stored {
     pub fn plain(&self) -> Buffer<'_> {
         Buffer { bytes: &self.bytes, trees: self.trees.into(), part_words: &self.parts, symbols: &self.symbols }
+    }
+
+    pub fn lent(&self) -> Lent<'_> {
+        Lent { bytes: &self.bytes, trees: self.trees, parts: &self.parts, symbols: &self.symbols }
+    }
+
+    /// The source's buffer, if the check passes it: the source reads unchecked.
+    pub fn source(&self) -> Option<TopSubtree> {
+        self.plain().check().ok()?;
+        let parts: Vec<[u32; 3]> = self.parts.chunks_exact(3).map(|w| [w[0], w[1], w[2]]).collect();
+        Some(TopSubtree::of(self.trees as usize, &self.bytes, &parts, &self.symbols))
     }
 }
 

@@ -1,5 +1,6 @@
 //! The proved functions beside the unmodified source and, where that has no answer, beside a plain second implementation.
 mod buffers;
+mod cursors;
 mod lists;
 mod pack;
 mod plain;
@@ -7,16 +8,18 @@ mod plain_buffer;
 mod plain_list;
 mod proved;
 mod random;
+mod roots;
 mod stack;
 mod tally;
 mod tree;
+mod walks;
 mod words;
 
 use tally::Tally;
 
 fn main() {
     let many: u64 = std::env::args().nth(1).map_or(1, |x| x.parse().expect("how many times the usual number"));
-    let parts: [(&str, &dyn Fn(&mut Tally)); 10] = [
+    let parts: [(&str, &dyn Fn(&mut Tally)); 13] = [
         ("spans and symbols written", &|t| pack::write(t)),
         ("spans and symbols read", &|t| pack::read(t)),
         ("trees written", &|t| tree::write(t, 1_000_000 * many)),
@@ -27,6 +30,9 @@ fn main() {
         ("damaged lists", &|t| lists::damaged(t, 40_000 * many)),
         ("largest lists, stack of 1 MB", &|t| stack::run(t)),
         ("buffers checked", &|t| buffers::check(t, 40_000 * many)),
+        ("walks", &|t| walks::run(t, 40_000 * many)),
+        ("cursors", &|t| cursors::run(t, 40_000 * many)),
+        ("roots rewritten", &|t| roots::run(t, 40_000 * many)),
     ];
     let mut failed = false;
     for (what, run) in parts {

@@ -34,6 +34,51 @@ mod raw {
             parts: *const u32, part_words: usize,
             symbols: *const u32, symbol_words: usize,
         ) -> u64;
+        pub fn tt_walk(
+            b: *const u8, len: usize, trees: u32,
+            parts: *const u32, part_words: usize,
+            symbols: *const u32, symbol_words: usize,
+            place: usize, number: u32, left: u32, skip: bool,
+            next: *mut usize, next_words: usize,
+            words: *mut u32, room: usize,
+        ) -> u64;
+        pub fn tt_last_span(
+            b: *const u8, len: usize, trees: u32,
+            parts: *const u32, part_words: usize,
+            symbols: *const u32, symbol_words: usize,
+            place: usize, number: u32, left: u32,
+            words: *mut u32, room: usize,
+        ) -> u64;
+        pub fn tt_cursor(
+            b: *const u8, len: usize, trees: u32,
+            parts: *const u32, part_words: usize,
+            symbols: *const u32, symbol_words: usize,
+            call: u32, place: usize, number: u32, depth: usize,
+            numbers: *mut u32, counts: *mut u32, places: *mut usize,
+            next: *mut usize, next_words: usize,
+            words: *mut u32, room: usize,
+        ) -> u64;
+        pub fn tt_cursor_by_value(
+            b: *const u8, len: usize, trees: u32,
+            parts: *const u32, part_words: usize,
+            symbols: *const u32, symbol_words: usize,
+            call: u32, place: usize, number: u32, depth: usize,
+            numbers: *mut u32, counts: *mut u32, places: *mut usize,
+            next: *mut usize, next_words: usize,
+            words: *mut u32, room: usize,
+        ) -> u64;
+        pub fn tt_set_kind(
+            b: *mut u8, len: usize, trees: u32,
+            parts: *const u32, part_words: usize,
+            symbols: *const u32, symbol_words: usize,
+            kind: u32,
+        ) -> u64;
+        pub fn tt_set_spans(
+            b: *mut u8, len: usize, trees: u32,
+            parts: *mut u32, part_words: usize,
+            symbols: *const u32, symbol_words: usize,
+            spans: *const u32,
+        ) -> u64;
         pub fn tt_tables(
             list: *const u32, words: usize,
             parts: *mut u32, part_words: usize,
@@ -136,5 +181,82 @@ pub fn check(b: &[u8], trees: u32, parts: usize, symbols: usize) -> Result<(), (
 
 pub fn check_buffer(b: &[u8], trees: u32, parts: &[u32], symbols: &[u32]) -> Result<(), (u64, u64)> {
     let reply = unsafe { raw::tt_check_buffer(b.as_ptr(), b.len(), trees, parts.as_ptr(), parts.len(), symbols.as_ptr(), symbols.len()) };
+    list_reply(reply).map(|_| ())
+}
+
+// ---- walks, cursors, the root
+
+/// A stored buffer with its tree count and tables.
+#[derive(Clone, Copy)]
+pub struct Lent<'a> {
+    pub bytes: &'a [u8],
+    pub trees: u32,
+    pub parts: &'a [u32],
+    pub symbols: &'a [u32],
+}
+
+/// Place, number and trees left of a walk, before and behind a step. The answer: 0 none, 1 a tree.
+#[inline]
+pub fn walk(b: Lent, from: (usize, u32, u32), skip: bool, next: &mut [usize], words: &mut [u32]) -> Result<u64, (u64, u64)> {
+    list_reply(unsafe {
+        raw::tt_walk(
+            b.bytes.as_ptr(), b.bytes.len(), b.trees, b.parts.as_ptr(), b.parts.len(), b.symbols.as_ptr(), b.symbols.len(),
+            from.0, from.1, from.2, skip, next.as_mut_ptr(), next.len(), words.as_mut_ptr(), words.len(),
+        )
+    })
+}
+
+pub fn last_span(b: Lent, from: (usize, u32, u32), words: &mut [u32]) -> Result<u64, (u64, u64)> {
+    list_reply(unsafe {
+        raw::tt_last_span(
+            b.bytes.as_ptr(), b.bytes.len(), b.trees, b.parts.as_ptr(), b.parts.len(), b.symbols.as_ptr(), b.symbols.len(),
+            from.0, from.1, from.2, words.as_mut_ptr(), words.len(),
+        )
+    })
+}
+
+/// The arrays of a cursor.
+#[derive(Clone, PartialEq, Eq)]
+pub struct Stack {
+    pub numbers: [u32; 256],
+    pub counts: [u32; 256],
+    pub places: [usize; 256],
+}
+
+impl Stack {
+    pub const EMPTY: Stack = Stack { numbers: [0; 256], counts: [0; 256], places: [0; 256] };
+}
+
+/// Calls 0 `bump`, 1 `end`, 2 `bump_or_end`, 3 `token_tree`, 4 `peek_two_leaves`; place, number and depth before and behind.
+/// The answer: 0 none, 1 a tree, 2 two leaves, 3 nothing to hand back.
+#[inline]
+pub fn cursor(
+    by_value: bool, b: Lent, call: u32, at: (usize, u32, usize), stack: &mut Stack, next: &mut [usize], words: &mut [u32],
+) -> Result<u64, (u64, u64)> {
+    let call_it = if by_value { raw::tt_cursor_by_value } else { raw::tt_cursor };
+    list_reply(unsafe {
+        call_it(
+            b.bytes.as_ptr(), b.bytes.len(), b.trees, b.parts.as_ptr(), b.parts.len(), b.symbols.as_ptr(), b.symbols.len(),
+            call, at.0, at.1, at.2,
+            stack.numbers.as_mut_ptr(), stack.counts.as_mut_ptr(), stack.places.as_mut_ptr(),
+            next.as_mut_ptr(), next.len(), words.as_mut_ptr(), words.len(),
+        )
+    })
+}
+
+pub fn set_kind(bytes: &mut [u8], trees: u32, parts: &[u32], symbols: &[u32], kind: u32) -> Result<(), (u64, u64)> {
+    let reply = unsafe {
+        raw::tt_set_kind(bytes.as_mut_ptr(), bytes.len(), trees, parts.as_ptr(), parts.len(), symbols.as_ptr(), symbols.len(), kind)
+    };
+    list_reply(reply).map(|_| ())
+}
+
+/// The five words of the opening span, then those of the closing one.
+pub fn set_spans(bytes: &mut [u8], trees: u32, parts: &mut [u32], symbols: &[u32], spans: &[u32; 10]) -> Result<(), (u64, u64)> {
+    let reply = unsafe {
+        raw::tt_set_spans(
+            bytes.as_mut_ptr(), bytes.len(), trees, parts.as_mut_ptr(), parts.len(), symbols.as_ptr(), symbols.len(), spans.as_ptr(),
+        )
+    };
     list_reply(reply).map(|_| ())
 }

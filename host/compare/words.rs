@@ -11,7 +11,7 @@ pub fn span(w: &[u32]) -> Span {
     }
 }
 
-fn span_words(s: &Span) -> [u32; 5] {
+pub fn span_words(s: &Span) -> [u32; 5] {
     [s.anchor.file_id.0, s.anchor.ast_id.0, s.ctx.0, s.range.start().into(), s.range.len().into()]
 }
 
