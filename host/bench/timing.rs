@@ -6,7 +6,7 @@ pub fn row<T>(what: &str, units: usize, mut ours: impl FnMut(), mut setup: impl 
     let (mut a, mut b) = (f64::MAX, f64::MAX);
     let begun = Instant::now();
     let mut runs = 0;
-    while runs < 9 || (runs < 200 && begun.elapsed().as_millis() < 1500) {
+    while runs < 9 || (runs < 200 && begun.elapsed().as_millis() < 1000) {
         let t = Instant::now();
         ours();
         a = a.min(t.elapsed().as_nanos() as f64);
