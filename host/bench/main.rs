@@ -11,6 +11,7 @@ mod list;
 mod lists;
 mod timing;
 mod tree;
+mod walks;
 
 fn main() {
     println!("| what | ours, ns | the source's, ns | ratio |");
@@ -19,4 +20,5 @@ fn main() {
     tree::trees();
     lists::run();
     buffers::run();
+    walks::run();
 }

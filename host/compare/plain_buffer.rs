@@ -20,6 +20,19 @@ pub enum Answer {
     Refused(u64, u64),
 }
 
+impl Answer {
+    /// "refused 7", or what is handed back.
+    pub fn sort(&self) -> String {
+        match self {
+            Answer::Done => "done".into(),
+            Answer::None => "none".into(),
+            Answer::One(_) => "one".into(),
+            Answer::Two(..) => "two".into(),
+            Answer::Refused(r, _) => format!("refused {r}"),
+        }
+    }
+}
+
 impl Buffer<'_> {
     pub fn sized(&self) -> bool {
         let parts = self.part_words.len() / 3;
