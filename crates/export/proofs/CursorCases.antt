@@ -23,7 +23,7 @@ use Rattle.cursor.specs.Open.{opened, cursorOf}
 use Rattle.cursor.specs.Plan.{answerOf}
 use Rattle.cursor.specs.Moves.{stateOf, written, atOf, Moves}
 use Rattle.cursor.specs.Look.{bothOf, peekOf, Tells, Peeks}
-use Rattle.cursor.specs.declared.open.At.{At}
+use Rattle.cursor.specs.declared.state.At.{At}
 use Rattle.cursor.specs.declared.plan.Answer.{Answer}
 use Rattle.cursor.specs.declared.plan.Answer.the-variants as answers
 use Rattle.cursor.specs.declared.look.Ahead.{Ahead}

@@ -11,7 +11,7 @@ use Rattle.cursor.specs.Open.{cursorOf}
 use Rattle.cursor.specs.Plan.{answerOf}
 use Rattle.cursor.specs.Moves.{stateOf, written}
 use Rattle.cursor.specs.Look.{bothOf, peekOf}
-use Rattle.cursor.specs.declared.open.At.{At}
+use Rattle.cursor.specs.declared.state.At.{At}
 use Rattle.cursor.specs.declared.plan.Answer.{Answer}
 use Rattle.cursor.specs.declared.look.Ahead.{Ahead}
 use Rattle.cursor.specs.declared.look.TwoLeaves.{TwoLeaves}

@@ -4,7 +4,7 @@ use crate::unchecked::store_answer;
 use crate::unchecked::store_leaves;
 use cursor::cursor::Cursor;
 use cursor::cursor::Next;
-use cursor::open::At;
+use cursor::state::At;
 ghost use mathlib.Core.Path.{_≡_};
 ghost use Prim.Native.Nat.{_≤_};
 ghost use Rattle.walk.specs.Source.{answerWords};

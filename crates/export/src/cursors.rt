@@ -8,7 +8,7 @@ use cursor::lent::bump_or_end;
 use cursor::lent::end;
 use cursor::look::peek_two_leaves;
 use cursor::look::token_tree;
-use cursor::open::At;
+use cursor::state::At;
 ghost use mathlib.Core.Path.{_≡_};
 ghost use Prim.Native.Nat.{_≤_};
 ghost use Rattle.walk.specs.Source.{answerWords};

@@ -2,7 +2,7 @@
 use crate::replies::refused_code;
 use cursor::look::Ahead;
 use cursor::look::TwoLeaves;
-use cursor::open::At;
+use cursor::state::At;
 use cursor::plan::Answer;
 use tree::raw::place as wide;
 use tree::types::TokenTree;
