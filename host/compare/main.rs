@@ -2,6 +2,7 @@
 mod buffers;
 mod cursors;
 mod lists;
+mod machine;
 mod pack;
 mod plain;
 mod plain_buffer;
@@ -19,7 +20,7 @@ use tally::Tally;
 
 fn main() {
     let many: u64 = std::env::args().nth(1).map_or(1, |x| x.parse().expect("how many times the usual number"));
-    let parts: [(&str, &dyn Fn(&mut Tally)); 13] = [
+    let parts: [(&str, &dyn Fn(&mut Tally)); 14] = [
         ("spans and symbols written", &|t| pack::write(t)),
         ("spans and symbols read", &|t| pack::read(t)),
         ("trees written", &|t| tree::write(t, 1_000_000 * many)),
@@ -32,6 +33,7 @@ fn main() {
         ("buffers checked", &|t| buffers::check(t, 40_000 * many)),
         ("walks", &|t| walks::run(t, 40_000 * many)),
         ("cursors", &|t| cursors::run(t, 40_000 * many)),
+        ("lists of calls beside the plain machine", &|t| machine::run(t, 40_000 * many)),
         ("roots rewritten", &|t| roots::run(t, 40_000 * many)),
     ];
     let mut failed = false;
