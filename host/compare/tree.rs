@@ -186,18 +186,6 @@ fn reads_alike(t: &Tables, bytes: &[u8], at: usize, n: u32) -> bool {
     }
 }
 
-/// Any form that holds a tree.
-pub fn loose(r: &mut Random) -> Loose {
-    Loose {
-        span: r.pick(&[0, 0, 8, 12]),
-        close: r.pick(&[0, 0, 8, 12]),
-        close_extra: r.below(4),
-        symbol: r.pick(&[0, 0, 2, 4]),
-        tag: r.below(2),
-        forms: r.below(3) as usize,
-    }
-}
-
 /// Trees read in every form, the writer's choice or not, each also cut short at every byte and with a byte changed.
 pub fn read(tally: &mut Tally, trees: u64) {
     let mut r = Random::new(4);
