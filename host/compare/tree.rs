@@ -1,4 +1,5 @@
 //! One tree: every form at its limits, written and read.
+use crate::maker::loose;
 use crate::pack::held;
 use crate::plain::{self, LAST, Loose, Span, Tree};
 use crate::proved;
