@@ -16,12 +16,11 @@ fn tree_or_none(text: &mut Text, tree: Option<TokenTree>) {
 }
 
 /// `a` advance, `s` advance_skip_subtree: the tree or none, and the place behind.
-fn walk(text: &mut Text, r: &mut Random, top: &TopSubtree) {
+fn walk(text: &mut Text, r: &mut Random, top: &TopSubtree, skips: bool) {
     let mut walk = top.walk_from(0);
-    let skips = r.pick(&[2, 4, 1_000_000]);
     text.line("walk");
     for n in 0..(top.trees() + 2).min(MOST_CALLS) {
-        let skip = r.one_in(skips) && (n > 0 || r.one_in(8));
+        let skip = skips && r.one_in(3) && (n > 0 || r.one_in(8));
         text.word(if skip { "s" } else { "a" });
         let tree = if skip { walk.advance_skip_subtree() } else { walk.advance() };
         tree_or_none(text, tree);
@@ -82,7 +81,8 @@ fn last_spans(text: &mut Text, top: &TopSubtree) {
 }
 
 pub fn read(text: &mut Text, r: &mut Random, top: &TopSubtree) {
-    walk(text, r, top);
+    walk(text, r, top, false);
+    walk(text, r, top, true);
     cursor(text, r, top);
     last_spans(text, top);
 }
