@@ -1,11 +1,12 @@
 //! Finds libbundle.a, which `rt staticlib bundle` writes: in the folder TT_BUNDLE_LIB, or in the repository's target/staticlib.
+//! A relative TT_BUNDLE_LIB counts from the folder of this crate.
 use std::env;
 use std::path::{Path, PathBuf};
 
 fn main() {
     let here = PathBuf::from(env::var_os("CARGO_MANIFEST_DIR").expect("set by cargo"));
     let usual = here.join("../../target/staticlib");
-    let folder = env::var_os("TT_BUNDLE_LIB").map_or(usual, PathBuf::from);
+    let folder = env::var_os("TT_BUNDLE_LIB").map_or(usual, |folder| here.join(folder));
     let library = folder.join("libbundle.a");
     println!("cargo:rerun-if-env-changed=TT_BUNDLE_LIB");
     println!("cargo:rerun-if-changed={}", library.display());
