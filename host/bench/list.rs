@@ -38,7 +38,12 @@ fn leaf(r: &mut Random, list: &mut Vec<u32>, shape: &Shape, at: &mut u32) {
 
 /// List words, 13 a tree.
 pub fn list(shape: &Shape) -> Vec<u32> {
-    let mut r = Random::new(5);
+    list_of(shape, 5)
+}
+
+/// Another list of the same shape for each seed.
+pub fn list_of(shape: &Shape, seed: u64) -> Vec<u32> {
+    let mut r = Random::new(seed);
     let mut list = Vec::with_capacity(13 * shape.trees);
     let mut open = vec![0];
     let mut at = 0;

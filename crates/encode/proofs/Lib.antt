@@ -4,3 +4,4 @@ pub mod EncodePut
 pub mod EncodeForms
 pub mod EncodeTree
 pub mod EncodeUse
+pub mod ListedReturns

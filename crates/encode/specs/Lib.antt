@@ -1,2 +1,3 @@
 pub mod Encode
 pub mod Ready
+pub mod Listed

@@ -163,13 +163,13 @@ pub fn is_short(p: RawLiteral) -> bool
 }
 
 // The size of a span in its smallest form, with its bound.
-fn small_span(span: PackedSpan) -> usize
+pub fn small_span(span: PackedSpan) -> usize
     ensures { λ r. ⌜ (r ≡ length (spanBytes 0 (spanOf span))) × (r ≤ 12) ⌝ }
 {
     span_size(span, false)
 }
 
-fn small_symbol(index: u32) -> usize
+pub fn small_symbol(index: u32) -> usize
     ensures { λ r. ⌜ (r ≡ length (symbolBytes 0 index)) × (r ≤ 4) ⌝ }
 {
     symbol_size(index)
@@ -193,7 +193,7 @@ fn ident_size(p: RawIdent) -> usize
     span + symbol
 }
 
-fn literal_size(p: RawLiteral) -> usize
+pub fn literal_size(p: RawLiteral) -> usize
     ensures { λ r. ⌜ r ≡ length (treeBytes 1 (literalRaw p) 0) ⌝ }
 {
     let span = small_span(p.span);
@@ -207,7 +207,7 @@ fn literal_size(p: RawLiteral) -> usize
     span + 2 + symbol
 }
 
-fn subtree_size(p: RawSubtree, children: ChildrenBytes) -> usize
+pub fn subtree_size(p: RawSubtree, children: ChildrenBytes) -> usize
     ensures { λ r. ⌜ r ≡ length (treeBytes 1 (subtreeRaw p) (children .0)) ⌝ }
 {
     let form = form_of(p, children);

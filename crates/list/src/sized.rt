@@ -2,7 +2,7 @@
 use tree::raw::place;
 use tree::refusal::Refusal;
 use tree::refusal::Verdict;
-use tree::words::word_fields;
+use tree::plain::fields_at;
 ghost use mathlib.Core.Path.{_≡_};
 ghost use Prim.Native.Nat.{_+_, _<_, _≤_};
 ghost use lib.ListN.{length, getD};
@@ -36,7 +36,7 @@ fn row_two(l: &[u32]) -> Verdict
     let count = l.len() / 13;
     let mut n: usize = 0;
     while n < count {
-        if !word_fields(l, n) {
+        if !fields_at(l, n) {
             return refused(2, n);
         }
         n = n + 1;

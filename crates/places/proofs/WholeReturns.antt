@@ -1,13 +1,11 @@
 -- One law for each return of the functions of src/whole.rt.
 use Prim.Native.Nat.{ℕ, _+_, _*_, _-_, _/_, _≤_, _<_}
-use mathlib.Core.Bool.{Bool, true, false, _||_}
+use mathlib.Core.Bool.{Bool, true, false}
 use mathlib.Core.Logic.{⊎-elim}
 use mathlib.Core.Path.{_≡_, refl, sym, ap, subst, _∙_}
 use mathlib.Core.List.{List}
 use native.Mathlib.Omega.{arith}
-use borrow.Author.Tests.{eqb-true}
-use lib.Dec.{eqb}
-use lib.ListN.{length, getD, set}
+use lib.ListN.{length, getD, set, List·getD-eq-default}
 use lib.Seq.{getD-set-same, getD-set-other}
 use Rattle.format.specs.WordList.{wordOf, rawFrom, listCount}
 use Rattle.format.specs.Writer.{find, rawOf}
@@ -65,13 +63,38 @@ module _ (key : ℕ → Key) (g : ℕ) where
   pub place-of : (k k′ : Key) (r : ℕ) → k ≡ k′ → r ≡ find (isKey key k) g 0 → r ≡ find (isKey key k′) g 0
   place-of k k′ r e q = q ∙ ap (λ (x : Key). find (isKey key x) g 0) e
 
-  pub close-same : (opening closing o′ c′ : Key) (b : Bool) (o : ℕ) → opening ≡ o′ → closing ≡ c′ → b ≡ sameKey closing opening → b ≡ true
-      → o ≡ find (isKey key o′) g 0 → o ≡ find (isKey key c′) g 0
-  close-same opening closing o′ c′ b o eo ec s t q =
-      let e : closing ≡ opening = same-eq closing opening (sym s ∙ t) in
-      q ∙ ap (λ (x : Key). find (isKey key x) g 0) (sym eo ∙ sym e ∙ ec)
+  pub close-other : (k k′ : Key) (x r : ℕ) → (2 < x → k ≡ k′) → r ≡ find (isKey key k) g 0 → 2 < x → r ≡ find (isKey key k′) g 0
+  close-other k k′ x r f q h = place-of k k′ r (f h) q
 
-pub ruleset close-place-cases = (place-of, close-same)
+  pub close-same : (opening closing o′ c′ : Key) (b : Bool) (x o : ℕ) → opening ≡ o′ → (2 < x → closing ≡ c′) → b ≡ sameKey closing opening → b ≡ true
+      → o ≡ find (isKey key o′) g 0 → 2 < x → o ≡ find (isKey key c′) g 0
+  close-same opening closing o′ c′ b x o eo ec s t q h =
+      let e : closing ≡ opening = same-eq closing opening (sym s ∙ t) in
+      q ∙ ap (λ (k : Key). find (isKey key k) g 0) (sym eo ∙ sym e ∙ ec h)
+
+  pub name-other : (k k′ : Key) (x r : ℕ) → (named x ≡ true → k ≡ k′) → r ≡ find (isKey key k) g 0 → named x ≡ true → r ≡ find (isKey key k′) g 0
+  name-other k k′ x r f q h = place-of k k′ r (f h) q
+
+pub ruleset close-place-cases = (place-of, close-other, close-same, name-other)
+
+-- the key of a tree that has it, any of one that has not
+module _ (l : List ℕ) (n x : ℕ) (k : Key) where
+  pub pick-open : x ≤ 2 → 2 < x → k ≡ keyAt l Close n
+  pick-open h g = absurd (omega arith)
+
+  pub pick-close : k ≡ keyAt l Close n → 2 < x → k ≡ keyAt l Close n
+  pick-close e g = e
+
+  pub pick-name : k ≡ keyAt l Name n → named x ≡ true → k ≡ keyAt l Name n
+  pick-name e g = e
+
+  pub pick-other : (b : Bool) → b ≡ named x → b ≡ false → named x ≡ true → k ≡ keyAt l Name n
+  pick-other b e h g = true-false (named x) g (sym e ∙ h)
+
+pub first-none : (s : List ℕ) → length s ≡ 0 → _≡_ {A = ℕ} 0 (getD s 0 0)
+first-none s h = sym (List·getD-eq-default s 0 {n = 0} (omega arith))
+
+pub ruleset pick-cases = (pick-open, pick-close, pick-name, pick-other, first-none)
 
 -- ---- a tree's indices
 
@@ -87,16 +110,6 @@ module _ (l : List ℕ) (n : ℕ) (h : n < length l / 13) where
   pub name-inside : n < keyCount l Name
   unfolding keyCount
   name-inside = h
-
--- a leaf with a symbol is no subtree
-named-leaf : (x : ℕ) → named x ≡ true → 2 < x → ⊥
-unfolding named
-named-leaf x a b = go (eqb x 1) (eqb x 2) refl refl a
-  where
-    go : (p q : Bool) → eqb x 1 ≡ p → eqb x 2 ≡ q → (p || q) ≡ true → ⊥
-    go true q e f h = let s = eqb-true x 1 e in omega arith
-    go false true e f h = let s = eqb-true x 2 f in omega arith
-    go false false e f h = true-false false h refl
 
 module _ (parts symbols l : List ℕ) (n g : ℕ) (ps ss : List ℕ) (W : Whole parts symbols ps ss g) where
   pub whole-parts : Loaded parts Part 0 g ps
@@ -116,26 +129,17 @@ module _ (parts symbols l : List ℕ) (n g : ℕ) (ps ss : List ℕ) (W : Whole 
     head : wordOf l n 0 ≡ getD l (13 * n) 0
     head = let z : 13 * n + 0 ≡ 13 * n = omega arith in ap (λ (j : ℕ). getD l j 0) z
 
-    module _ (b : Bool) (e : b ≡ named (getD l (13 * n) 0)) where
-      sort : (x : Bool) → b ≡ x → named (wordOf l n 0) ≡ x
-      sort x h = ap (λ (z : ℕ). named z) head ∙ sym e ∙ h
+    pub opened-place : o ≡ find (isKey (keyAt parts Part) (keyAt l Open n)) g 0
+    opened-place = place-of (keyAt parts Part) g k (keyAt l Open n) o ek eo
 
-      pub tree-named : b ≡ true → (k′ : Key) → k′ ≡ keyAt l Name n → (y : ℕ) → y ≡ find (isKey (keyAt symbols Symbol) k′) (length symbols) 0
-          → rawFrom o 0 y (wordOf l n) ≡ rawOf parts symbols l n
-      tree-named h k′ ek′ y ey =
-          tree-raw parts symbols l n o 0 y hn opened (λ v. absurd (named-leaf (wordOf l n 0) (sort true h) v))
-          (λ v. place-of (keyAt symbols Symbol) (length symbols) k′ (keyAt l Name n) y ek′ ey)
+    pub tree-found : (c : ℕ) → (2 < getD l (13 * n) 0 → c ≡ find (isKey (keyAt parts Part) (keyAt l Close n)) g 0)
+        → (y : ℕ) → (named (getD l (13 * n) 0) ≡ true → y ≡ find (isKey (keyAt symbols Symbol) (keyAt l Name n)) (length symbols) 0)
+        → rawFrom o c y (wordOf l n) ≡ rawOf parts symbols l n
+    tree-found c fc y fy =
+        tree-raw parts symbols l n o c y hn opened (λ v. fc (subst (λ (x : ℕ). 2 < x) head v) ∙ to (keyAt l Close n))
+        (λ v. fy (subst (λ (x : ℕ). named x ≡ true) head v))
 
-      module _ (h : b ≡ false) where
-        pub tree-punct : getD l (13 * n) 0 ≤ 2 → rawFrom o 0 0 (wordOf l n) ≡ rawOf parts symbols l n
-        tree-punct h′ =
-            tree-raw parts symbols l n o 0 0 hn opened (λ v. let w = head in absurd (omega arith)) (λ v. true-false (named (wordOf l n 0)) v (sort false h))
-
-        pub tree-subtree : 2 < getD l (13 * n) 0 → (c : ℕ) → c ≡ find (isKey (keyAt parts Part) (keyAt l Close n)) g 0 → rawFrom o c 0 (wordOf l n) ≡ rawOf parts symbols l n
-        tree-subtree h′ c ec =
-            tree-raw parts symbols l n o c 0 hn opened (λ v. ec ∙ to (keyAt l Close n)) (λ v. true-false (named (wordOf l n 0)) v (sort false h))
-
-pub ruleset tree-indices-cases = (open-inside, close-inside, name-inside, whole-parts, whole-symbols, place-of, tree-named, tree-punct, tree-subtree)
+pub ruleset tree-indices-cases = (open-inside, close-inside, name-inside, whole-parts, whole-symbols, opened-place, tree-found)
 
 -- ---- all trees
 

@@ -34,7 +34,7 @@ fn words_key(t: &[u32], at: usize) -> Key
     }
 }
 
-fn symbol_key(y: u32) -> Key
+pub fn symbol_key(y: u32) -> Key
     ensures { λ r. ⌜ r ≡ symbolKey y ⌝ }
 {
     Key {

@@ -6,17 +6,19 @@ use crate::key::Layout;
 use crate::key::is_named;
 use crate::key::key_at;
 use crate::key::same_key;
+use crate::key::symbol_key;
 ghost use mathlib.Core.Path.{_≡_};
+ghost use mathlib.Core.Bool.{true};
 ghost use Prim.Native.Nat.{_+_, _-_, _/_, _<_, _≤_};
-ghost use lib.ListN.{length};
+ghost use lib.ListN.{length, getD};
 ghost use Rattle.format.specs.WordList.{wordOf, rawFrom};
 ghost use Rattle.format.specs.Writer.{find, rawOf};
-ghost use Rattle.places.specs.Key.{keyAt, keyCount, isKey};
+ghost use Rattle.places.specs.Key.{keyAt, keyCount, isKey, named};
 ghost use Rattle.places.specs.Index.{Loaded};
-ghost use Rattle.places.specs.declared.key.Layout.the-variants.{Part, Open, Close};
+ghost use Rattle.places.specs.declared.key.Layout.the-variants.{Part, Symbol, Open, Close, Name};
 ghost use Rattle.places.specs.Places.{Resolved, Whole};
 
-// What a tree does not use is 0.
+// What a tree does not use may be any.
 pub struct Indices {
     pub opening: u32,
     pub closing: u32,
@@ -42,21 +44,76 @@ fn place_in(t: &[u32], table: Layout, slots: &[u32], g: usize, k: Key) -> u32
     }
 }
 
-// The close part's place: as a rule it is the open part's, which is o.
-fn close_place(l: &[u32], n: usize, parts: &[u32], slots: &[u32], g: usize, o: u32) -> u32
-    requires { ⌜ Loaded (now parts) Part 0 g (now slots) ⌝ }
+// The close part of a subtree; of a leaf, which has none, the open one.
+fn close_or_open(l: &[u32], n: usize, sort: u32) -> Key
     requires { ⌜ (n < keyCount (now l) Open) × (n < keyCount (now l) Close) ⌝ }
-    requires { ⌜ o ≡ find (isKey (keyAt (now parts) Part) (keyAt (now l) Open n)) g 0 ⌝ }
-    ensures { λ r. ⌜ r ≡ find (isKey (keyAt (now (parts .entry)) Part) (keyAt (now (l .entry)) Close n)) g 0 ⌝ }
+    ensures { λ r. ⌜ ((2 < sort) → (r ≡ keyAt (now (l .entry)) Close n)) ⌝ }
 {
     let opening = key_at(l, Layout::Open, n);
     let closing = key_at(l, Layout::Close, n);
+    if sort <= 2 {
+        return opening;
+    }
+    closing
+}
+
+// The close part's place: as a rule it is the open part's, which is o.
+fn close_place(
+    l: &[u32],
+    n: usize,
+    sort: u32,
+    parts: &[u32],
+    slots: &[u32],
+    g: usize,
+    o: u32,
+) -> u32
+    requires { ⌜ Loaded (now parts) Part 0 g (now slots) ⌝ }
+    requires { ⌜ (n < keyCount (now l) Open) × (n < keyCount (now l) Close) ⌝ }
+    requires { ⌜ o ≡ find (isKey (keyAt (now parts) Part) (keyAt (now l) Open n)) g 0 ⌝ }
+    ensures { λ r. ⌜ ((2 < sort) → (r ≡ find (isKey (keyAt (now (parts .entry)) Part)
+        (keyAt (now (l .entry)) Close n)) g 0)) ⌝ }
+{
+    let opening = key_at(l, Layout::Open, n);
+    let closing = close_or_open(l, n, sort);
     if same_key(closing, opening) {
         return o;
     }
     place_in(parts, Layout::Part, slots, g, closing)
 }
 
+fn first_of(symbols: &[u32]) -> u32
+    ensures { λ r. ⌜ r ≡ getD (now (symbols .entry)) 0 0 ⌝ }
+{
+    if symbols.len() == 0 {
+        return 0;
+    }
+    symbols[0]
+}
+
+// The symbol of a tree that has one; of another, the first of the table, which is found at once.
+fn name_or_first(l: &[u32], n: usize, sort: u32, symbols: &[u32]) -> Key
+    requires { ⌜ n < keyCount (now l) Name ⌝ }
+    ensures { λ r. ⌜ ((named sort ≡ true) → (r ≡ keyAt (now (l .entry)) Name n)) ⌝ }
+{
+    let name = key_at(l, Layout::Name, n);
+    let other = symbol_key(first_of(symbols));
+    if is_named(sort) {
+        return name;
+    }
+    other
+}
+
+fn name_place(l: &[u32], n: usize, sort: u32, symbols: &[u32], slots: &[u32]) -> u32
+    requires { ⌜ Loaded (now symbols) Symbol 0 (length (now symbols)) (now slots) ⌝ }
+    requires { ⌜ n < keyCount (now l) Name ⌝ }
+    ensures { λ r. ⌜ ((named sort ≡ true) → (r ≡ find (isKey (keyAt (now (symbols .entry)) Symbol)
+        (keyAt (now (l .entry)) Name n)) (length (now (symbols .entry))) 0)) ⌝ }
+{
+    let k = name_or_first(l, n, sort, symbols);
+    place_in(symbols, Layout::Symbol, slots, symbols.len(), k)
+}
+
+// No branch by the sort: which part and which symbol is looked for, is.
 fn tree_indices(
     l: &[u32],
     n: usize,
@@ -72,32 +129,14 @@ fn tree_indices(
         (now (parts .entry)) (now (symbols .entry)) (now (l .entry)) n ⌝ }
 {
     let sort = l[13 * n];
-    let o = place_in(
-        parts,
-        Layout::Part,
-        part_slots,
-        g,
-        key_at(l, Layout::Open, n),
-    );
-    if is_named(sort) {
-        let k = key_at(l, Layout::Name, n);
-        return Indices {
-            opening: o,
-            closing: 0,
-            symbol: place_in(symbols, Layout::Symbol, symbol_slots, symbols.len(), k),
-        };
-    }
-    if sort <= 2 {
-        return Indices {
-            opening: o,
-            closing: 0,
-            symbol: 0,
-        };
-    }
+    let k = key_at(l, Layout::Open, n);
+    let o = place_in(parts, Layout::Part, part_slots, g, k);
+    let c = close_place(l, n, sort, parts, part_slots, g, o);
+    let y = name_place(l, n, sort, symbols, symbol_slots);
     Indices {
         opening: o,
-        closing: close_place(l, n, parts, part_slots, g, o),
-        symbol: 0,
+        closing: c,
+        symbol: y,
     }
 }
 

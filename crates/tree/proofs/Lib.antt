@@ -5,3 +5,4 @@ pub mod TypesWords
 pub mod WordsReturns
 pub mod WordsTree
 pub mod WordsAgain
+pub mod ListedLaws

@@ -2,3 +2,5 @@ pub mod Raw
 pub mod Types
 pub mod Words
 pub mod Refusal
+pub mod Listed
+pub mod Plain

@@ -1,6 +1,8 @@
 // One tree as a value: its types, row 2 of its fields, and its list words.
 pub mod fields;
 pub mod kinds;
+pub mod listed;
+pub mod plain;
 pub mod raw;
 pub mod refusal;
 pub mod types;

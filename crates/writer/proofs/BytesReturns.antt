@@ -6,10 +6,11 @@ use mathlib.Core.List.{List, [], _++_}
 use native.Mathlib.Omega.{arith}
 use native.Mathlib.Nat.{zero-add}
 use native.Mathlib.Numerals.{add-one}
-use borrow.Author.Tests.{eq-eqb, eqb-true, ne-eqb}
+use borrow.Author.Tests.{le-leb, eq-eqb, eqb-true, ne-eqb}
 use lib.Dec.{eqb}
 use lib.ListN.{length, getD, length-append}
 use Rattle.format.specs.Test.{if_then_else_}
+use Rattle.format.specs.Verdict.{passed}
 use Rattle.format.specs.Word.{put}
 use Rattle.format.specs.Tree.{Raw, subtree, isSubtree, countOf}
 use Rattle.format.specs.Fields.{fields}
@@ -24,7 +25,7 @@ use Rattle.pack.specs.declared.Packed.{Packed}
 use Rattle.pack.proofs.Store.{put-put, put-none}
 use Rattle.tree.specs.Raw.{rawTree}
 use Rattle.tree.specs.Raw as tree
-use Rattle.encode.specs.Encode.{indices, TreePacked}
+use Rattle.encode.specs.Encode.{indices, packTree, TreePacked}
 use Rattle.tree.specs.declared.raw.RawTree.{RawTree}
 use Rattle.tree.specs.declared.raw.RawSubtree.{RawSubtree}
 use Rattle.tree.specs.declared.raw.ChildrenBytes.{ChildrenBytes}
@@ -40,12 +41,16 @@ use Rattle.writer.proofs.SizesReturns.{spanned, children-are, sized-dow
 
 -- ---- one tree
 
-pub tree-put : (l : List ℕ) (n o c y : ℕ) (t : RawTree) → t ≡ rawTree (rawFrom o c y (wordOf l n)) → (k : ChildrenBytes) (kids : ℕ) → k ≡ record { 0 = kids }
-    → (b : List ℕ) (at : ℕ) (r : Packed) (b′ : List ℕ) → TreePacked b at 1 (tree.rawOf t) (k .0) r b′ → Fits (rawFrom o c y (wordOf l n)) kids at b
-    → b′ ≡ put b at (treeBytes 1 (rawFrom o c y (wordOf l n)) kids)
-tree-put l n o c y t e k kids f b at r b′ p q =
-    let p′ : TreePacked b at 1 (rawFrom o c y (wordOf l n)) kids r b′ = rw (words-raw l n o c y t e, f) at p in
-    encoded-contents b at 1 (rawFrom o c y (wordOf l n)) kids r b′ p′ (q .inRange) (q .inTable) (q .room)
+module _ (t : Raw) (k : ChildrenBytes) (kids : ℕ) (f : k ≡ record { 0 = kids }) (b : List ℕ) (at : ℕ) where
+  pub tree-ready : Fits t kids at b → packTree b at 1 t (k .0) ≡ passed
+  unfolding packTree
+  tree-ready q = rw f (simp (q .inRange, q .inTable, le-leb _ _ (q .room)))
+
+  pub tree-put : (b′ : List ℕ) → b′ ≡ put b at (treeBytes 1 t (k .0)) → b′ ≡ put b at (treeBytes 1 t kids)
+  tree-put b′ p = p ∙ rw f
+
+pub tree-there : (l work : List ℕ) (n : ℕ) → Spanned l n work → n < listCount l
+tree-there l work n s = s .tree
 
 -- a tree by its words that is a subtree
 subtree-is : (a b d : ℕ) (u : ℕ → ℕ) → isSubtree (rawFrom a b d u) ≡ true
@@ -226,7 +231,7 @@ module _ (p s l : List ℕ) (ok : Passed p s l) (work : List ℕ) (w : Sized p s
 pub run-ends : (p s l : List ℕ) (from stop n : ℕ) (out out′ : List ℕ) → Advanced p s l from n out out′ → n ≤ stop → stop ≤ n → Advanced p s l from stop out out′
 run-ends p s l from stop n out out′ a h k = let e : n ≡ stop = omega arith in rw e at a
 
-pub ruleset put-at-cases = (tree-put)
+pub ruleset put-at-cases = (tree-there, tree-ready, tree-put)
 
 pub ruleset put-run-cases = (run-low, run-falls, run-spanned, run-fits, run-advances, advanced-none, run-ends)
 

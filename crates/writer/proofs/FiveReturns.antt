@@ -12,11 +12,12 @@ use Rattle.format.specs.Verdict.{passed, refused, eachFrom}
 use Rattle.format.specs.Tables.{indexedBelow}
 use Rattle.format.specs.WordList.{wordOf, rawFrom, listCount}
 use Rattle.format.specs.Writer.{find, isPart, present, rawOf}
+use Rattle.format.proofs.Each.{true-false}
 use Rattle.format.proofs.First.{find-at, find-to}
 use Rattle.tree.specs.Refusal.{verdictAnswer}
 use Rattle.tree.specs.declared.refusal.Verdict.{Verdict}
 use Rattle.tree.specs.declared.refusal.Verdict.the-variants.{Passed}
-use Rattle.writer.specs.Run.{Run, absent, firstAbsent}
+use Rattle.writer.specs.Run.{Run, InTables, absent, firstAbsent}
 use Rattle.writer.specs.Tail.{fiveFrom}
 use Rattle.writer.proofs.RunLaw.{first-word, run-tree, run-cases}
 
@@ -127,7 +128,29 @@ module _ (l : List ℕ) (n P S o c y x : ℕ) (e : x ≡ o) where
         pub symbol-present : v < S → true ≡ placed
         symbol-present j = let a : ltb y S ≡ true = lt-ltb y S (omega arith) in with-open true (simp (no-punct, no-subtree, a))
 
-pub ruleset present-cases = (open-absent, punct-present, close-absent, close-present, symbol-absent, symbol-present)
+all-in : (p s o c y : ℕ) (w : ℕ → ℕ) → InTables p s o c y → indexedBelow p s (rawFrom o c y w) ≡ true
+unfolding rawFrom
+all-in p s o c y w t = go (eqb (w 0) 0) (eqb (w 0) 1) (eqb (w 0) 2) refl refl refl
+  where
+    go : (x₀ x₁ x₂ : Bool) → eqb (w 0) 0 ≡ x₀ → eqb (w 0) 1 ≡ x₁ → eqb (w 0) 2 ≡ x₂ → indexedBelow p s (rawFrom o c y w) ≡ true
+    go true x₁ x₂ e₀ e₁ e₂ = simp (e₀, lt-ltb _ _ (t .opening))
+    go false true x₂ e₀ e₁ e₂ = simp (e₀, e₁, lt-ltb _ _ (t .opening), lt-ltb _ _ (t .symbol))
+    go false false true e₀ e₁ e₂ = simp (e₀, e₁, e₂, lt-ltb _ _ (t .opening), lt-ltb _ _ (t .symbol))
+    go false false false e₀ e₁ e₂ = simp (e₀, e₁, e₂, lt-ltb _ _ (t .opening), lt-ltb _ _ (t .closing))
+
+pub all-in-present : (p s o c y : ℕ) (l : List ℕ) (n : ℕ) (b : Bool) → (b ≡ true → InTables p s o c y) → b ≡ true → true ≡ indexedBelow p s (rawFrom o c y (wordOf l n))
+all-in-present p s o c y l n b f h = sym (all-in p s o c y (wordOf l n) (f h))
+
+module _ (p s o c y : ℕ) where
+  pub all-not : false ≡ true → InTables p s o c y
+  all-not q = true-false false q refl
+
+  pub all-are : (o′ c′ y′ : ℕ) → o′ ≡ o → c′ ≡ c → y′ ≡ y → o′ + 2 < p → c′ + 2 < p → y′ < s → true ≡ true → InTables p s o c y
+  all-are o′ c′ y′ eo ec ey ho hc hy q = record { opening = rw eo at ho; closing = rw ec at hc; symbol = rw ey at hy }
+
+pub ruleset all-present-cases = (all-not, all-are)
+
+pub ruleset present-cases = (all-in-present, open-absent, punct-present, close-absent, close-present, symbol-absent, symbol-present)
 
 -- ---- a run
 

@@ -102,15 +102,17 @@ pub ruleset children-cases = (leaf-children, end-within, end-falls, subtree-chil
 
 -- ---- the bytes of a tree
 
-module _ (l : List ℕ) (n o c y : ℕ) (work : List ℕ) (t : RawTree) (e : t ≡ rawTree (rawFrom o c y (wordOf l n)))
-    (k : ChildrenBytes) (f : k ≡ record { 0 = childrenIn l n work }) (x : ℕ) (g : x ≡ length (treeBytes 1 (tree.rawOf t) (k .0))) where
+module _ (t : Raw) (k : ChildrenBytes) (kids : ℕ) (f : k ≡ record { 0 = kids }) (x : ℕ) (g : x ≡ length (treeBytes 1 t (k .0))) where
   pub size-fits : x < 4294967296
-  size-fits = let a = tree-size 1 (tree.rawOf t) (k .0) .most in omega arith
+  size-fits = let a = tree-size 1 t (k .0) .most in omega arith
 
-  pub size-of-tree : x ≡ length (treeBytes 1 (rawFrom o c y (wordOf l n)) (childrenIn l n work))
-  size-of-tree = g ∙ rw (words-raw l n o c y t e, f)
+  pub size-of-tree : x ≡ length (treeBytes 1 t kids)
+  size-of-tree = g ∙ rw f
 
-pub ruleset size-at-cases = (size-fits, size-of-tree)
+pub size-there : (l work : List ℕ) (n : ℕ) → Spanned l n work → n < listCount l
+size-there l work n s = s .tree
+
+pub ruleset size-at-cases = (size-there, size-fits, size-of-tree)
 
 -- ---- the work words of a run
 

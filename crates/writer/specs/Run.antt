@@ -57,6 +57,12 @@ firstAbsent parts symbols l from stop = find (absent parts symbols l) (stop - fr
 
 -- ---- work words
 
+-- places in tables of these sizes, the last two parts being the root's
+pub record InTables (parts symbols o c y : ℕ) : Type 0 where
+  pub opening : o + 2 < parts
+  pub closing : c + 2 < parts
+  pub symbol : y < symbols
+
 -- the descendants of tree n; they do not turn on its indices
 unfoldable pub countIn : List ℕ → ℕ → ℕ
 countIn l n = countOf (rawFrom 0 0 0 (wordOf l n))

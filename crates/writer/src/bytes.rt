@@ -1,15 +1,14 @@
 // The bytes of a list that rows 1 to 5 pass, tree after tree, into an output that holds them.
 use crate::five::run_end;
 use crate::sizes::children_of;
-use encode::encode::encode;
 use encode::encode::encode_top_subtree;
+use encode::listed::put_listed;
 use pack::span::PackedSpan;
 use places::resolve::resolve;
 use tree::raw::ChildrenBytes;
 use tree::raw::Descendants;
 use tree::raw::RawSubtree;
 use tree::raw::place;
-use tree::words::raw_from_words;
 ghost use mathlib.Core.Path.{_≡_};
 ghost use Prim.Native.Nat.{_-_, _<_, _≤_};
 ghost use lib.ListN.{length, getD};
@@ -49,9 +48,17 @@ fn put_at(
         (treeBytes 1 (rawFrom «open_index» «close_index» «symbol_index» (wordOf (now (l .entry)) n))
         (childrenIn (now (l .entry)) n (now (work .entry)))) ⌝ }
 {
-    let tree = raw_from_words(l, n, open_index, close_index, symbol_index);
     let children = children_of(l, n, work);
-    encode(out, at, tree, children);
+    put_listed(
+        out,
+        at,
+        l,
+        n,
+        open_index,
+        close_index,
+        symbol_index,
+        children,
+    );
 }
 
 // Writes a run. The tables are those that its indices are places in.

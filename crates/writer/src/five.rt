@@ -4,6 +4,7 @@ use places::resolve::resolve;
 use tree::raw::place;
 use tree::refusal::Verdict;
 ghost use mathlib.Core.Path.{_≡_};
+ghost use mathlib.Core.Bool.{true};
 ghost use mathlib.Core.List.{[]};
 ghost use Prim.Native.Nat.{_+_, _*_, _/_, _<_, _≤_};
 ghost use lib.ListN.{length, getD};
@@ -12,7 +13,7 @@ ghost use Rattle.format.specs.WordList.{wordOf, rawFrom, listCount};
 ghost use Rattle.format.specs.Writer.{isPart, present};
 ghost use Rattle.places.specs.Places.{Indexed};
 ghost use Rattle.tree.specs.Refusal.{verdictAnswer};
-ghost use Rattle.writer.specs.Run.{Ready, Run, firstAbsent};
+ghost use Rattle.writer.specs.Run.{Ready, Run, InTables, firstAbsent};
 ghost use Rattle.writer.specs.Tail.{fiveFrom};
 
 // Whether part i is the one that is named at a place of the list.
@@ -45,6 +46,28 @@ pub fn root_present(l: &[u32], parts: &[u32]) -> bool
     is_part(parts, count - 1, l, 8)
 }
 
+// Whether three indices are places in tables of these sizes, whichever a tree uses: no branch by its sort.
+fn all_present(
+    parts: usize,
+    symbols: usize,
+    open_index: u32,
+    close_index: u32,
+    symbol_index: u32,
+) -> bool
+    ensures { λ r. ⌜ ((r ≡ true) → InTables parts symbols «open_index» «close_index» «symbol_index») ⌝ }
+{
+    if parts <= place(open_index) + 2 {
+        return false;
+    }
+    if parts <= place(close_index) + 2 {
+        return false;
+    }
+    if symbols <= place(symbol_index) {
+        return false;
+    }
+    true
+}
+
 // Whether the indices of tree n, below the root, are places in tables of these sizes: the last two parts are the root's.
 fn is_present(
     l: &[u32],
@@ -59,6 +82,9 @@ fn is_present(
     ensures { λ r. ⌜ r ≡ indexedBelow parts symbols
         (rawFrom «open_index» «close_index» «symbol_index» (wordOf (now (l .entry)) n)) ⌝ }
 {
+    if all_present(parts, symbols, open_index, close_index, symbol_index) {
+        return true;
+    }
     if parts <= place(open_index) + 2 {
         return false;
     }

@@ -2,8 +2,7 @@
 use places::resolve::resolve;
 use tree::raw::place;
 use tree::raw::ChildrenBytes;
-use encode::size::tree_size;
-use tree::words::raw_from_words;
+use encode::listed::listed_size;
 ghost use mathlib.Core.Path.{_≡_};
 ghost use Prim.Native.Nat.{_+_, _<_, _≤_};
 ghost use lib.ListN.{length};
@@ -42,9 +41,8 @@ fn size_at(
         (rawFrom «open_index» «close_index» «symbol_index» (wordOf (now (l .entry)) n))
         (childrenIn (now (l .entry)) n (now (work .entry)))) ⌝ }
 {
-    let tree = raw_from_words(l, n, open_index, close_index, symbol_index);
     let children = children_of(l, n, work);
-    tree_size(tree, children) as u32
+    listed_size(l, n, open_index, close_index, symbol_index, children) as u32
 }
 
 // The work words of a run. The tables are those that its indices are places in.

@@ -9,7 +9,6 @@ use Rattle.list.proofs.sized.row_two.Tie as tie
 use Rattle.list.proofs.sized.row_two.Reads as reads
 use Rattle.list.proofs.sized.row_two.Lts as lts
 use Rattle.list.proofs.sized.refused.Reads as refused-reads
-use Rattle.tree.proofs.words.word_fields.Reads as word-fields-reads
 
 abbrev Inv-loop : tie.InvT-loop
 Inv-loop l count n₀ n = (n ≤ listCount l) × (fieldsFrom l 0 ≡ fieldsFrom l n)
@@ -22,8 +21,8 @@ loop-holds : tie.Need-loop-holds Inv-loop μ-loop
 loop-holds c = search (needs, row-two-cases)
 
 -- src/sized.rt:39:13
-word-fields-requires : tie.Need-word-fields-requires Inv-loop μ-loop
-word-fields-requires c κs = search (needs, row-two-cases)
+fields-at-requires : tie.Need-fields-at-requires Inv-loop μ-loop
+fields-at-requires c κs = search (needs, row-two-cases)
 
 -- src/sized.rt:40:13
 refused-requires : tie.Need-refused-requires Inv-loop μ-loop
@@ -56,7 +55,7 @@ row-two-spec =
     Inv-loop
     μ-loop
     loop-holds
-    word-fields-requires
+    fields-at-requires
     refused-requires
     returns
     add-n

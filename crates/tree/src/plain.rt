@@ -1,0 +1,122 @@
+// Row 2 at a tree of a list that holds it. Most trees keep to limits that a look at their first word gives: these are
+// compared without a branch by sort, and a tree that is past one of them is looked at in full.
+use crate::listed::sort_at;
+use crate::words::word_fields;
+ghost use mathlib.Core.Path.{_≡_};
+ghost use mathlib.Core.Bool.{true};
+ghost use Prim.Native.Nat.{_+_, _<_, _≤_};
+ghost use Rattle.format.specs.WordList.{listCount, wordOf, wordFields};
+ghost use Rattle.tree.specs.Plain.{secondMost, firstMost, closeMost, Low, Shut};
+
+fn second_most(sort: u32) -> u32
+    ensures { λ r. ⌜ r ≡ secondMost sort ⌝ }
+{
+    match sort {
+        0 => 2,
+        1 => 1,
+        2 => 10,
+        _ => 3,
+    }
+}
+
+fn first_most(sort: u32) -> u32
+    ensures { λ r. ⌜ r ≡ firstMost sort ⌝ }
+{
+    match sort {
+        0 => 0xD7FF,
+        _ => 4294967294,
+    }
+}
+
+fn close_most(sort: u32) -> u64
+    ensures { λ r. ⌜ r ≡ closeMost sort ⌝ }
+{
+    match sort {
+        3 => 21474836475,
+        _ => 0,
+    }
+}
+
+fn wide(x: u32) -> u64
+    ensures { λ r. ⌜ (r ≡ x) × (r < 4294967296) ⌝ }
+{
+    x as u64
+}
+
+fn close_sum(l: &[u32], n: usize) -> u64
+    requires { ⌜ n < listCount (now l) ⌝ }
+    ensures { λ r. ⌜ r ≡ wordOf (now (l .entry)) n 8 + wordOf (now (l .entry)) n 9 + wordOf (now (l .entry)) n 10
+        + wordOf (now (l .entry)) n 11 + wordOf (now (l .entry)) n 12 ⌝ }
+{
+    wide(l[13 * n + 8])
+        + wide(l[13 * n + 9])
+        + wide(l[13 * n + 10])
+        + wide(l[13 * n + 11])
+        + wide(l[13 * n + 12])
+}
+
+fn span_ends(start: u32, len: u32) -> bool
+    ensures { λ r. ⌜ ((r ≡ true) → (start + len ≤ 4294967295)) ⌝ }
+{
+    if 4294967295 - start < len {
+        return false;
+    }
+    true
+}
+
+// Whether the first three words of tree n keep to the limits.
+fn is_low(l: &[u32], n: usize) -> bool
+    requires { ⌜ n < listCount (now l) ⌝ }
+    ensures { λ r. ⌜ ((r ≡ true) → Low (wordOf (now (l .entry)) n)) ⌝ }
+{
+    let sort = sort_at(l, n);
+    if 3 < sort {
+        return false;
+    }
+    if second_most(sort) < l[13 * n + 2] {
+        return false;
+    }
+    if first_most(sort) < l[13 * n + 1] {
+        return false;
+    }
+    true
+}
+
+// Whether the sum of words 8 to 12 does.
+fn is_shut(l: &[u32], n: usize) -> bool
+    requires { ⌜ n < listCount (now l) ⌝ }
+    ensures { λ r. ⌜ ((r ≡ true) → Shut (wordOf (now (l .entry)) n)) ⌝ }
+{
+    if close_most(sort_at(l, n)) < close_sum(l, n) {
+        return false;
+    }
+    true
+}
+
+// Whether tree n keeps to the limits, and its spans end in range.
+fn is_plain(l: &[u32], n: usize) -> bool
+    requires { ⌜ n < listCount (now l) ⌝ }
+    ensures { λ r. ⌜ ((r ≡ true) → (wordFields (wordOf (now (l .entry)) n) ≡ true)) ⌝ }
+{
+    if !is_low(l, n) {
+        return false;
+    }
+    if !is_shut(l, n) {
+        return false;
+    }
+    if !span_ends(l[13 * n + 6], l[13 * n + 7]) {
+        return false;
+    }
+    span_ends(l[13 * n + 11], l[13 * n + 12])
+}
+
+// Whether row 2 is silent at tree n.
+pub fn fields_at(l: &[u32], n: usize) -> bool
+    requires { ⌜ n < listCount (now l) ⌝ }
+    ensures { λ r. ⌜ r ≡ wordFields (wordOf (now (l .entry)) n) ⌝ }
+{
+    if is_plain(l, n) {
+        return true;
+    }
+    word_fields(l, n)
+}
