@@ -12,7 +12,11 @@ static char *lines, *words;
 static size_t line_number;
 
 _Noreturn void stored_bad(const char *why) {
-    fprintf(stderr, "replay: line %zu: %s\n", line_number, why);
+    if (line_number > 0) {
+        fprintf(stderr, "replay: line %zu: %s\n", line_number, why);
+    } else {
+        fprintf(stderr, "replay: %s\n", why);
+    }
     exit(2);
 }
 
