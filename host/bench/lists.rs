@@ -24,7 +24,7 @@ fn one(shape: &Shape, name: &str) {
 
     let part_words = part_list.concat();
     let maps = TopSubtree::maps(&part_list, &symbol_list);
-    row(
+    let written = row(
         &format!("writing over given tables, {name}"),
         n,
         || _ = black_box(proved::encode_list(&words_of, &part_words, &symbol_list, &mut work, &mut out).unwrap()),
@@ -32,7 +32,7 @@ fn one(shape: &Shape, name: &str) {
         |trees| _ = black_box(TopSubtree::encode_list(trees, &maps)),
     );
     let bytes = top.bytes();
-    assert_eq!(out[..bytes.len()], *bytes);
+    assert!(!written || out[..bytes.len()] == *bytes);
 
     row(
         &format!("tables and writing, {name}"),

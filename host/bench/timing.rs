@@ -1,8 +1,16 @@
 //! Best of several runs, ours and the source's in turn.
 use std::time::Instant;
 
-/// A row of the table, by the unit. What the source's run uses up is made outside the time.
-pub fn row<T>(what: &str, units: usize, mut ours: impl FnMut(), mut setup: impl FnMut() -> T, mut source: impl FnMut(T)) {
+/// Whether a row is asked for: all are, unless the program is given a word that their names must hold.
+fn asked(what: &str) -> bool {
+    std::env::args().nth(1).is_none_or(|word| what.contains(&word))
+}
+
+/// A row of the table, by the unit; whether it was asked for. What the source's run uses up is made outside the time.
+pub fn row<T>(what: &str, units: usize, mut ours: impl FnMut(), mut setup: impl FnMut() -> T, mut source: impl FnMut(T)) -> bool {
+    if !asked(what) {
+        return false;
+    }
     let (mut a, mut b) = (f64::MAX, f64::MAX);
     let begun = Instant::now();
     let mut runs = 0;
@@ -18,4 +26,5 @@ pub fn row<T>(what: &str, units: usize, mut ours: impl FnMut(), mut setup: impl 
     }
     let n = units as f64;
     println!("| {what} | {:.2} | {:.2} | {:.2} |", a / n, b / n, a / b);
+    true
 }

@@ -91,7 +91,7 @@ pub fn trees() {
         .collect();
     let mut out = vec![0; top.bytes().len()];
     let list: Vec<_> = trees.iter().map(|w| words::tree(w)).collect();
-    row(
+    let written = row(
         "tree, written one by one",
         n,
         || {
@@ -104,5 +104,5 @@ pub fn trees() {
         || list.clone(),
         |list| _ = black_box(TopSubtree::encode_list(list, &maps)),
     );
-    assert_eq!(out[33..], top.bytes()[33..]);
+    assert!(!written || out[33..] == top.bytes()[33..]);
 }

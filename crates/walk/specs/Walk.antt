@@ -17,7 +17,7 @@ use Rattle.walk.specs.declared.walk.Answer.{Answer}
 use Rattle.walk.specs.declared.walk.Answer.the-variants.{Tree, None, Refused}
 use Rattle.walk.specs.declared.walk.Step.{Step}
 use Rattle.walk.specs.declared.walk.Begun.{Begun}
-use Rattle.walk.specs.declared.walk.Begun.the-variants.{Stopped, Read}
+use Rattle.walk.specs.declared.walk.Begun.the-variants as begun
 
 -- "A walk is byte place, tree number, trees left."
 abbrev pub walkOf : Walk → steps.Walk
@@ -59,8 +59,9 @@ pub record ReadAt (b : List ℕ) (k : ℕ) (parts symbols : List ℕ) (w : Walk)
 
 -- the step is over, or a tree is read
 unfoldable pub Begins : List ℕ → ℕ → List ℕ → List ℕ → Walk → Begun → Type 0
-Begins b k parts symbols w (Stopped s) = (call : steps.WalkCall) → stepOf s ≡ steps.walkStep treeShape (treeReader b k parts symbols) call (walkOf w)
-Begins b k parts symbols w (Read y) = ReadAt b k parts symbols w y
+Begins b k parts symbols w begun.None = (call : steps.WalkCall) → (format.none, walkOf w) ≡ steps.walkStep treeShape (treeReader b k parts symbols) call (walkOf w)
+Begins b k parts symbols w (begun.Refused r) = (call : steps.WalkCall) → (format.refused (r .number) (r .tree), walkOf w) ≡ steps.walkStep treeShape (treeReader b k parts symbols) call (walkOf w)
+Begins b k parts symbols w (begun.Read y) = ReadAt b k parts symbols w y
 
 -- passing a tree asks no more of a buffer than its length
 unfoldable pub passed : ℕ → steps.Walk → TreeAt → format.Answer TokenTree × steps.Walk
