@@ -28,7 +28,7 @@ use Rattle.decode.specs.declared.decode.TreeRead.{TreeRead}
 use Rattle.decode.specs.declared.decode.TreeRead.the-variants as reads
 use Rattle.decode.proofs.DecodeUse.{decoded-got, decoded-refused}
 use Rattle.walk.specs.Source.{sizes, treeShape, treeReader}
-use Rattle.walk.specs.Walk.{walkOf, answerOf, stepOf, Stepped, walkRow, Within, ReadAt, Begins, passed, passedOver}
+use Rattle.walk.specs.Walk.{walkOf, answerOf, stepOf, Stepped, walkRow, Within, ReadAt, Begins, passed, passedOver, callOf}
 use Rattle.walk.specs.declared.walk.Walk.{Walk}
 use Rattle.walk.specs.declared.walk.Answer.the-variants.{Tree, None, Refused}
 use Rattle.walk.specs.declared.walk.Step.{Step}
@@ -250,11 +250,12 @@ module _ (b parts symbols : List ℕ) (k : ℕ) (w : Walk) where
       pub step-left : 1 ≤ w .left
       step-left = let i = step-within .some in omega arith
 
-      pub step-on : (s : Step) → stepOf s ≡ (one (y .tree), record { place = y .next; number = w .number + 1; left = w .left - 1 }) → Stepped b k parts symbols advance w s
-      step-on s f = stepped advance s (f ∙ sym (read-at .step advance))
+      pub step-on : (x : Bool) → x ≡ false → (s : Step) → stepOf s ≡ (one (y .tree), record { place = y .next; number = w .number + 1; left = w .left - 1 })
+          → Stepped b k parts symbols (callOf x) w s
+      step-on x h s f = rw h (stepped advance s (f ∙ sym (read-at .step advance)))
 
-      pub step-past : (s : Step) → stepOf s ≡ passed (length b) (walkOf w) y → Stepped b k parts symbols skip w s
+      pub step-past : (x : Bool) → x ≡ true → (s : Step) → stepOf s ≡ passed (length b) (walkOf w) y → Stepped b k parts symbols (callOf x) w s
       unfolding passed treeReader
-      step-past s f = stepped skip s (f ∙ sym (read-at .step skip))
+      step-past x h s f = rw h (stepped skip s (f ∙ sym (read-at .step skip)))
 
 pub ruleset step-cases = (step-none, step-refused, step-within, step-number, step-left, step-on, step-past)

@@ -1,6 +1,6 @@
 -- The answers of walk steps in document 01's numbers and values, and what a step promises.
 use Prim.Native.Nat.{ℕ, _+_, _-_, _<_, _≤_}
-use mathlib.Core.Bool.{true, not}
+use mathlib.Core.Bool.{Bool, true, false, not}
 use mathlib.Core.Path.{_≡_}
 use mathlib.Core.List.{List}
 use lib.Dec.{leb, ltb}
@@ -34,6 +34,10 @@ stepOf s = (answerOf (s .answer), walkOf (s .walk))
 
 abbrev pub stepWords : Step → format.Answer (List ℕ) × steps.Walk
 stepWords s = (answerWords (answerOf (s .answer)), walkOf (s .walk))
+
+abbrev pub callOf : Bool → steps.WalkCall
+callOf true = steps.skip
+callOf false = steps.advance
 
 -- a step: the one tree that the tables give, and by list words what the definitions' reader reads
 pub record Stepped (b : List ℕ) (k : ℕ) (parts symbols : List ℕ) (call : steps.WalkCall) (w : Walk) (r : Step) : Type 0 where

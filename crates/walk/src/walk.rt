@@ -13,7 +13,7 @@ ghost use lib.ListN.{length};
 ghost use Rattle.format.specs.Reader.{none, one, refused};
 ghost use Rattle.format.specs.Walk.{advance, skip};
 ghost use Rattle.walk.specs.Source.{treeReader};
-ghost use Rattle.walk.specs.Walk.{walkOf, stepOf, walkRow, Within, Begins, passed, passedOver, Stepped};
+ghost use Rattle.walk.specs.Walk.{walkOf, stepOf, walkRow, Within, Begins, passed, passedOver, callOf, Stepped};
 
 pub struct Walk {
     pub place: usize,
@@ -137,21 +137,6 @@ fn begin(b: &[u8], trees: u32, parts: &[u32], symbols: &[u32], walk: Walk) -> Be
     }
 }
 
-// The next tree.
-pub fn advance(b: &[u8], trees: u32, parts: &[u32], symbols: &[u32], walk: Walk) -> Step
-    ensures { λ r. ⌜ Stepped (now (b .entry)) trees (now (parts .entry)) (now (symbols .entry)) advance walk r ⌝ }
-{
-    let begun = begin(b, trees, parts, symbols, walk);
-    match begun {
-        Begun::None => over(walk),
-        Begun::Refused(refusal) => refuse(refusal.number, refusal.tree, walk),
-        Begun::Read(here) => {
-            let tree = here.tree;
-            onward(walk, tree, 1, here.next)
-        }
-    }
-}
-
 // Past a subtree: 3 if its count overruns the trees left, else 9 if its bytes overrun the buffer.
 fn past_subtree(b: &[u8], walk: Walk, here: TreeAt, count: Descendants) -> Step
     requires { ⌜ Within (now b) walk here ⌝ }
@@ -181,6 +166,38 @@ fn past(b: &[u8], walk: Walk, here: TreeAt) -> Step
     }
 }
 
+// The next tree; with `skip` past all that it holds.
+pub fn walk_by(
+    b: &[u8],
+    trees: u32,
+    parts: &[u32],
+    symbols: &[u32],
+    walk: Walk,
+    skip: bool,
+) -> Step
+    ensures { λ r. ⌜ Stepped (now (b .entry)) trees (now (parts .entry)) (now (symbols .entry)) (callOf skip) walk r ⌝ }
+{
+    let begun = begin(b, trees, parts, symbols, walk);
+    match begun {
+        Begun::None => over(walk),
+        Begun::Refused(refusal) => refuse(refusal.number, refusal.tree, walk),
+        Begun::Read(here) => {
+            if skip {
+                return past(b, walk, here);
+            }
+            let tree = here.tree;
+            onward(walk, tree, 1, here.next)
+        }
+    }
+}
+
+// The next tree.
+pub fn advance(b: &[u8], trees: u32, parts: &[u32], symbols: &[u32], walk: Walk) -> Step
+    ensures { λ r. ⌜ Stepped (now (b .entry)) trees (now (parts .entry)) (now (symbols .entry)) advance walk r ⌝ }
+{
+    walk_by(b, trees, parts, symbols, walk, false)
+}
+
 // The next tree, and past all that it holds.
 pub fn advance_skip_subtree(
     b: &[u8],
@@ -191,10 +208,5 @@ pub fn advance_skip_subtree(
 ) -> Step
     ensures { λ r. ⌜ Stepped (now (b .entry)) trees (now (parts .entry)) (now (symbols .entry)) skip walk r ⌝ }
 {
-    let begun = begin(b, trees, parts, symbols, walk);
-    match begun {
-        Begun::None => over(walk),
-        Begun::Refused(refusal) => refuse(refusal.number, refusal.tree, walk),
-        Begun::Read(here) => past(b, walk, here),
-    }
+    walk_by(b, trees, parts, symbols, walk, true)
 }
