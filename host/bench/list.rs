@@ -5,7 +5,7 @@ pub struct Shape {
     pub trees: usize,
     pub parts: u64,
     pub symbols: u64,
-    /// Past this start, starts begin again at 0 once no subtree is open but the root.
+    /// Past this start, starts begin again at 0 once no subtree is open but the root. Without that they grow.
     pub wrap: u32,
 }
 
@@ -38,7 +38,12 @@ fn leaf(r: &mut Random, list: &mut Vec<u32>, shape: &Shape, at: &mut u32) {
 
 /// List words, 13 a tree.
 pub fn list(shape: &Shape) -> Vec<u32> {
-    let mut r = Random::new(5);
+    seeded(shape, 5)
+}
+
+/// Another list of the same shape for each seed.
+pub fn seeded(shape: &Shape, seed: u64) -> Vec<u32> {
+    let mut r = Random::new(seed);
     let mut list = Vec::with_capacity(13 * shape.trees);
     let mut open = vec![0];
     let mut at = 0;
