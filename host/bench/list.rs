@@ -5,7 +5,7 @@ pub struct Shape {
     pub trees: usize,
     pub parts: u64,
     pub symbols: u64,
-    /// Past this start, starts begin again at 0 once no subtree is open but the root.
+    /// Past this start, starts begin again at 0 once no subtree is open but the root. Without that they grow.
     pub wrap: u32,
 }
 

@@ -19,6 +19,5 @@ fn main() {
     tree::spans();
     tree::trees();
     lists::run();
-    buffers::run();
     walks::run();
 }

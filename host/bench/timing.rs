@@ -7,14 +7,31 @@ fn asked(what: &str) -> bool {
 }
 
 /// A row of the table, by the unit; whether it was asked for. What the source's run uses up is made outside the time.
-pub fn row<T>(what: &str, units: usize, mut ours: impl FnMut(), mut setup: impl FnMut() -> T, mut source: impl FnMut(T)) -> bool {
+pub fn row<T>(what: &str, units: usize, ours: impl FnMut(), setup: impl FnMut() -> T, source: impl FnMut(T)) -> bool {
+    timed(what, units, 9, 1000, ours, setup, source)
+}
+
+/// The same in less time, for rows of which there are many.
+pub fn short_row(what: &str, units: usize, ours: impl FnMut(), mut source: impl FnMut()) -> bool {
+    timed(what, units, 5, 250, ours, || (), |()| source())
+}
+
+fn timed<T>(
+    what: &str,
+    units: usize,
+    least: usize,
+    millis: u128,
+    mut ours: impl FnMut(),
+    mut setup: impl FnMut() -> T,
+    mut source: impl FnMut(T),
+) -> bool {
     if !asked(what) {
         return false;
     }
     let (mut a, mut b) = (f64::MAX, f64::MAX);
     let begun = Instant::now();
     let mut runs = 0;
-    while runs < 9 || (runs < 200 && begun.elapsed().as_millis() < 1000) {
+    while runs < least || (runs < 200 && begun.elapsed().as_millis() < millis) {
         let t = Instant::now();
         ours();
         a = a.min(t.elapsed().as_nanos() as f64);

@@ -17,6 +17,7 @@ use Rattle.cursor.specs.Open.{opened, cursorOf}
 use Rattle.cursor.specs.Plan.{changed, planOf, May, Planned}
 use Rattle.cursor.specs.Moves.{atOf, written, stateOf, Arrays, Moves, moved, stored, countIn, Applied}
 use Rattle.cursor.specs.declared.state.At.{At}
+use Rattle.cursor.specs.declared.plan.Answer.{Answer}
 use Rattle.cursor.specs.declared.plan.Change.{Change}
 use Rattle.cursor.specs.declared.plan.Change.the-variants as changes
 use Rattle.cursor.specs.declared.plan.Opening.{Opening}
@@ -67,31 +68,6 @@ module _ (c : At) (change : Change) (m : May c change) where
   may-shut e = let h : 0 < c .depth = subst (May c) e m in omega arith
 
 pub ruleset apply-cases = (apply-stay, apply-on, apply-shut, apply-enter, enter-is, may-on, may-open, may-deep, may-shut)
-
--- the same of a cursor by value
-
-module _ (c : Cursor) (change : Change) (m : May (atOf c) change) where
-  pub next-on : (next : ℕ) → change ≡ changes.On next → c .number + 1 < 4294967296
-  next-on = may-on (atOf c) change m
-
-  pub next-open : (o : Opening) → change ≡ changes.Open o → c .number + 1 < 4294967296
-  next-open = may-open (atOf c) change m
-
-  pub next-deep : (o : Opening) → change ≡ changes.Open o → c .depth < 256
-  next-deep = may-deep (atOf c) change m
-
-  pub next-shut : change ≡ changes.Shut → 1 ≤ c .depth
-  next-shut = may-shut (atOf c) change m
-
-module _ (c : Cursor) (change : Change) where
-  pub next-stays : change ≡ changes.Stay → Applied (atOf c) change (c .numbers) (c .counts) (c .places) (atOf c) (c .numbers) (c .counts) (c .places)
-  next-stays = apply-stay (atOf c) change (c .numbers) (c .counts) (c .places)
-
-  pub next-enters : (o : Opening) (d : Cursor) → change ≡ changes.Open o → Applied (atOf c) (changes.Open o) (c .numbers) (c .counts) (c .places) (atOf d) (d .numbers) (d .counts) (d .places)
-      → Applied (atOf c) change (c .numbers) (c .counts) (c .places) (atOf d) (d .numbers) (d .counts) (d .places)
-  next-enters o d e h = rw e h
-
-pub ruleset next-cases = (apply-on, apply-shut, enter-is, next-on, next-open, next-deep, next-shut, next-stays, next-enters)
 
 -- ---- the arrays, by the open subtrees
 
@@ -186,16 +162,9 @@ pub ruleset moves-cases = (moves-may, moves-is)
 
 -- a cursor by value, whose state was handed on
 
-module _ (b parts symbols : List ℕ) (k : ℕ) (call : CursorCall) (c : Cursor) (a : At) (q : a ≡ atOf c) (p : Plan)
-    (e : Planned b k parts symbols call a (c .numbers) (c .counts) (c .places) p) where
-  planned : Planned b k parts symbols call (atOf c) (c .numbers) (c .counts) (c .places) p
-  planned = subst (λ (x : At). Planned b k parts symbols call x (c .numbers) (c .counts) (c .places) p) q e
+pub value-is : (b parts symbols : List ℕ) (k : ℕ) (call : CursorCall) (c : Cursor) (a : At) → a ≡ atOf c → (r : Answer) (c′ : At) (ns′ cs′ ps′ : List ℕ)
+    → Moves b k parts symbols call a (c .numbers) (c .counts) (c .places) r c′ ns′ cs′ ps′
+    → Moves b k parts symbols call (atOf c) (c .numbers) (c .counts) (c .places) r c′ ns′ cs′ ps′
+value-is b parts symbols k call c a q r c′ ns′ cs′ ps′ h = subst (λ (x : At). Moves b k parts symbols call x (c .numbers) (c .counts) (c .places) r c′ ns′ cs′ ps′) q h
 
-  pub value-may : May (atOf c) (p .change)
-  value-may = planned .may
-
-  pub value-is : (d : Cursor) → Applied (atOf c) (p .change) (c .numbers) (c .counts) (c .places) (atOf d) (d .numbers) (d .counts) (d .places)
-      → Moves b k parts symbols call (atOf c) (c .numbers) (c .counts) (c .places) (p .answer) (atOf d) (d .numbers) (d .counts) (d .places)
-  value-is d h = moves-is b parts symbols k call (atOf c) (c .numbers) (c .counts) (c .places) p planned (atOf d) (d .numbers) (d .counts) (d .places) h
-
-pub ruleset value-cases = (value-may, value-is)
+pub ruleset value-cases = (value-is)

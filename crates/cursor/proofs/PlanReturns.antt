@@ -1,5 +1,5 @@
 -- One law for each return of the parts of a call, with premises as the code's tests and calls give them.
-use Prim.Native.Nat.{ℕ, zero, suc, _+_, _-_, _<_, _≤_}
+use Prim.Native.Nat.{ℕ, zero, suc, _+_, _-_, _/_, _<_, _≤_}
 use mathlib.Core.Bool.{Bool, true, false, not, _&&_}
 use mathlib.Core.Path.{_≡_, refl, sym, ap, _∙_, subst}
 use mathlib.Core.List.{List, [], _∷_}
@@ -9,7 +9,22 @@ use lib.Dec.{leb}
 use lib.ListN.{length, getD, drop}
 use Rattle.format.specs.Reader.{Reader, Reply, got, bad, refused}
 use Rattle.format.specs.Cursor.{Open, Cursor, CursorCall, bump, end, bumpOrEnd, closing, cursorFits, bumped, goOn, shut, shutLast, dropLast, cursorCall, cursorStep, nestedIn}
+use Rattle.format.specs.Tree.{treeAt}
+use Rattle.format.specs.Tables.{countRules}
+use Rattle.format.specs.Buffer.{judge}
 use Rattle.format.proofs.Each.{and-left, and-right, true-false}
+use Rattle.pack.specs.Answer.{spanOf}
+use Rattle.tree.specs.Raw.{rawOf, rawAnswer}
+use Rattle.tree.specs.Types.{punctWith, identWith, literalWith, subtreeWith, resolved}
+use Rattle.tree.specs.declared.raw.RawPunct.{RawPunct}
+use Rattle.tree.specs.declared.raw.RawIdent.{RawIdent}
+use Rattle.tree.specs.declared.raw.RawLiteral.{RawLiteral}
+use Rattle.tree.specs.declared.raw.RawSubtree.{RawSubtree}
+use Rattle.tree.specs.declared.raw.RawAt.{RawAt}
+use Rattle.tree.specs.declared.raw.RawTree.{RawTree}
+use Rattle.tree.specs.declared.raw.RawTree.the-variants as raws
+use Rattle.tree.specs.declared.raw.RawRead.{RawRead}
+use Rattle.tree.specs.declared.raw.RawRead.the-variants as rawReads
 use Rattle.tree.specs.declared.types.TokenTree.{TokenTree}
 use Rattle.tree.specs.declared.types.TokenTree.the-variants as trees
 use Rattle.tree.specs.declared.types.Leaf.{Leaf}
@@ -18,7 +33,7 @@ use Rattle.decode.specs.Decode.{treeAnswer, decodedAt}
 use Rattle.decode.specs.declared.decode.TreeAt.{TreeAt}
 use Rattle.decode.specs.declared.decode.TreeRead.{TreeRead}
 use Rattle.decode.specs.declared.decode.TreeRead.the-variants as reads
-use Rattle.decode.proofs.DecodeUse.{decoded-got, decoded-refused}
+use Rattle.decode.proofs.DecodeUse.{decoded-got, decoded-refused, sized-got, sized-refused}
 use Rattle.walk.specs.Source.{treeShape, treeReader}
 use Rattle.walk.proofs.WalkWords.{reads-decoded}
 use Rattle.walk.proofs.WalkReturns.{leaf-flat, subtree-holds}
@@ -49,20 +64,56 @@ module _ (y : TreeAt) (p : Subtree) (e : y .tree ≡ trees.Subtree p) where
 
 -- ---- over a leaf, into a subtree
 
-module _ (c : At) (y : TreeAt) (r : Plan) where
-  pub enter-leaf : (l : Leaf) → y .tree ≡ trees.Leaf l → c .number + 1 < 4294967296 → r ≡ doing (changes.On (y .next)) → Enters c y r
-  unfolding answerOf changed May
-  enter-leaf l e h q =
-      let d : treeShape .isSub (y .tree) ≡ false = ap (treeShape .isSub) e ∙ leaf-flat l in
-      record { step = λ R os f. rw q (simp d); may = rw q h }
+-- a tree shown by entries is of the sort that was read
+module _ (parts symbols : List ℕ) (t : RawTree) where
+  flat-punct : (p : RawPunct) → t ≡ raws.Punct p → treeShape .isSub (resolved parts symbols (rawOf t)) ≡ false
+  unfolding rawOf resolved
+  flat-punct p e = ap (λ (u : RawTree). treeShape .isSub (resolved parts symbols (rawOf u))) e ∙ leaf-flat (punctWith parts (spanOf (p .span)) (p .char) (p .spacing))
 
-  module _ (p : Subtree) (e : y .tree ≡ trees.Subtree p) where
+  flat-ident : (p : RawIdent) → t ≡ raws.Ident p → treeShape .isSub (resolved parts symbols (rawOf t)) ≡ false
+  unfolding rawOf resolved
+  flat-ident p e = ap (λ (u : RawTree). treeShape .isSub (resolved parts symbols (rawOf u))) e ∙ leaf-flat (identWith parts symbols (spanOf (p .span)) (p .symbol) (p .raw))
+
+  flat-literal : (p : RawLiteral) → t ≡ raws.Literal p → treeShape .isSub (resolved parts symbols (rawOf t)) ≡ false
+  unfolding rawOf resolved
+  flat-literal p e =
+      ap (λ (u : RawTree). treeShape .isSub (resolved parts symbols (rawOf u))) e
+      ∙ leaf-flat (literalWith parts symbols (spanOf (p .span)) (p .symbol) (p .kind) (p .«raw_count») (p .«suffix_len»))
+
+  module _ (p : RawSubtree) (e : t ≡ raws.Subtree p) where
+    raw-holds : treeShape .isSub (resolved parts symbols (rawOf t)) ≡ true
+    unfolding rawOf resolved
+    raw-holds =
+        ap (λ (u : RawTree). treeShape .isSub (resolved parts symbols (rawOf u))) e
+        ∙ subtree-holds (subtreeWith parts (spanOf (p .opening)) (spanOf (p .closing)) (p .len .0) (p .kind)) .0
+
+    raw-counts : treeShape .count (resolved parts symbols (rawOf t)) ≡ p .len .0
+    unfolding rawOf resolved
+    raw-counts =
+        ap (λ (u : RawTree). treeShape .count (resolved parts symbols (rawOf u))) e
+        ∙ subtree-holds (subtreeWith parts (spanOf (p .opening)) (spanOf (p .closing)) (p .len .0) (p .kind)) .1
+
+module _ (c : At) (y : RawAt) (r : Plan) where
+  enter-flat : ((parts symbols : List ℕ) → treeShape .isSub (resolved parts symbols (rawOf (y .tree))) ≡ false) → c .number + 1 < 4294967296 → r ≡ doing (changes.On (y .next)) → Enters c y r
+  unfolding answerOf changed May
+  enter-flat d h q = record { step = λ R parts symbols os f. let g = d parts symbols in rw q (simp g); may = rw q h }
+
+  pub enter-punct : (p : RawPunct) → y .tree ≡ raws.Punct p → c .number + 1 < 4294967296 → r ≡ doing (changes.On (y .next)) → Enters c y r
+  enter-punct p e h q = enter-flat (λ parts symbols. flat-punct parts symbols (y .tree) p e) h q
+
+  pub enter-ident : (p : RawIdent) → y .tree ≡ raws.Ident p → c .number + 1 < 4294967296 → r ≡ doing (changes.On (y .next)) → Enters c y r
+  enter-ident p e h q = enter-flat (λ parts symbols. flat-ident parts symbols (y .tree) p e) h q
+
+  pub enter-literal : (p : RawLiteral) → y .tree ≡ raws.Literal p → c .number + 1 < 4294967296 → r ≡ doing (changes.On (y .next)) → Enters c y r
+  enter-literal p e h q = enter-flat (λ parts symbols. flat-literal parts symbols (y .tree) p e) h q
+
+  module _ (p : RawSubtree) (e : y .tree ≡ raws.Subtree p) where
     pub enter-deep : 256 ≤ c .depth → r ≡ refusal 4 (c .number) → Enters c y r
     enter-deep h q =
         record {
-          step = λ R os f.
+          step = λ R parts symbols os f.
               let g : leb 256 (length os) ≡ true = ap (leb 256) f ∙ le-leb _ _ h in
-              refused-plan 4 (c .number) r (cursorAt c os) q ∙ simp (holds y p e, g);
+              refused-plan 4 (c .number) r (cursorAt c os) q ∙ simp (raw-holds parts symbols (y .tree) p e, g);
           may = refused-may 4 (c .number) r c q;
         }
 
@@ -70,13 +121,13 @@ module _ (c : At) (y : TreeAt) (r : Plan) where
     unfolding answerOf changed May
     enter-open h i q =
         record {
-          step = λ R os f.
+          step = λ R parts symbols os f.
               let g : leb 256 (length os) ≡ false = ap (leb 256) f ∙ lt-leb _ _ h in
-              rw q (simp (holds y p e, counts y p e, g));
+              rw q (simp (raw-holds parts symbols (y .tree) p e, raw-counts parts symbols (y .tree) p e, g));
           may = rw q (i, h);
         }
 
-pub ruleset enter-cases = (enter-leaf, enter-deep, enter-open)
+pub ruleset enter-cases = (enter-punct, enter-ident, enter-literal, enter-deep, enter-open)
 
 -- ---- to the next tree
 
@@ -85,7 +136,8 @@ module _ (b parts symbols : List ℕ) (k : ℕ) (c : At) (p : Plan) where
   unfolding answerOf changed May treeReader
   go-end h q = record { step = λ os f. rw q (simp (le-leb _ _ h)); may = rw q tt }
 
-  module _ (h : c .number < k) (r : TreeRead) (f : r ≡ treeAnswer (decodedAt b parts symbols (c .number) (c .place))) where
+  module _ (h : c .number < k) (r : RawRead)
+      (f : r ≡ rawAnswer (judge (λ n t. t) (countRules (length parts / 3) (length symbols)) (c .number) (c .place) (treeAt b (c .place)))) where
     before : leb (treeReader b k parts symbols .trees) (c .number) ≡ false
     unfolding treeReader
     before = lt-leb _ _ h
@@ -97,19 +149,21 @@ module _ (b parts symbols : List ℕ) (k : ℕ) (c : At) (p : Plan) where
         let d : treeReader b k parts symbols .read (c .number) (c .place) ≡ z = reads-decoded b k parts symbols (c .number) (c .place) ∙ e in
         simp (g, d)
 
-    pub go-refused : (i : ℕ) → r ≡ reads.Refused i → p ≡ refusal i (c .number) → GoesOn b k parts symbols c p
+    pub go-refused : (i : ℕ) → r ≡ rawReads.Bad i → p ≡ refusal i (c .number) → GoesOn b k parts symbols c p
     go-refused i g q =
-        let d = decoded-refused (decodedAt b parts symbols (c .number) (c .place)) r f i g in
+        let d = sized-refused b parts symbols (c .number) (c .place) r f i g in
         record {
           step = λ os e. refused-plan i (c .number) p (cursorAt c os) q ∙ sym (goes (bad i) d os);
           may = refused-may i (c .number) p c q;
         }
 
-    pub go-got : (y : TreeAt) → r ≡ reads.Got y → Enters c y p → GoesOn b k parts symbols c p
+    pub go-got : (y : RawAt) → r ≡ rawReads.Got y → Enters c y p → GoesOn b k parts symbols c p
     go-got y g n =
-        let d = decoded-got (decodedAt b parts symbols (c .number) (c .place)) r f y g in
+        let d = sized-got b parts symbols (c .number) (c .place) r f y g in
         record {
-          step = λ os e. n .step (treeReader b k parts symbols) os e ∙ sym (goes (got (y .tree) (y .next) (y .children .0)) d os);
+          step = λ os e.
+              n .step (treeReader b k parts symbols) parts symbols os e
+              ∙ sym (goes (got (resolved parts symbols (rawOf (y .tree))) (y .next) (y .children .0)) d os);
           may = n .may;
         }
 

@@ -91,7 +91,3 @@ pub record Applied (c : At) (change : Change) (ns cs ps : List ℕ) (c′ : At) 
   pub numbers : ns′ ≡ stored change ns (c .depth) (c .number)
   pub counts : cs′ ≡ stored change cs (c .depth) (countIn change)
   pub places : ps′ ≡ stored change ps (c .depth) (c .place)
-
--- by value
-abbrev pub AppliedTo : Cursor → Change → Cursor → Type 0
-AppliedTo c change d = Applied (atOf c) change (c .numbers) (c .counts) (c .places) (atOf d) (d .numbers) (d .counts) (d .places)

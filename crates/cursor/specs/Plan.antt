@@ -6,6 +6,9 @@ use lib.ListN.{length, drop}
 use Rattle.format.specs.Reader as format
 use Rattle.format.specs.Cursor as calls
 use Rattle.format.specs.Cursor.{Open, Cursor, CursorCall}
+use Rattle.tree.specs.Raw.{rawOf}
+use Rattle.tree.specs.Types.{resolved}
+use Rattle.tree.specs.declared.raw.RawAt.{RawAt}
 use Rattle.tree.specs.declared.types.TokenTree.{TokenTree}
 use Rattle.decode.specs.declared.decode.TreeAt.{TreeAt}
 use Rattle.walk.specs.Source.{treeShape, treeReader}
@@ -57,9 +60,10 @@ cursorAt c os = record { number = c .number; place = c .place; opened = os }
 
 -- ---- what the parts of a call promise
 
-pub record Enters (c : At) (y : TreeAt) (r : Plan) : Type 0 where
-  pub step : (R : format.Reader TokenTree) (os : List Open) → length os ≡ c .depth
-      → planOf r (cursorAt c os) ≡ calls.bumped treeShape R (cursorAt c os) (format.got (y .tree) (y .next) (y .children .0))
+-- whatever the tables hold
+pub record Enters (c : At) (y : RawAt) (r : Plan) : Type 0 where
+  pub step : (R : format.Reader TokenTree) (parts symbols : List ℕ) (os : List Open) → length os ≡ c .depth
+      → planOf r (cursorAt c os) ≡ calls.bumped treeShape R (cursorAt c os) (format.got (resolved parts symbols (rawOf (y .tree))) (y .next) (y .children .0))
   pub may : May c (r .change)
 
 pub record GoesOn (b : List ℕ) (k : ℕ) (parts symbols : List ℕ) (c : At) (r : Plan) : Type 0 where

@@ -1,22 +1,17 @@
-// The cursor by value: every step takes it and hands back the next. That copies it whole; `lent` has the same calls
-// without the copies.
+// The cursor by value: every step takes it and hands back the next. That copies its arrays once in and once out; the
+// step itself is that of `lent`.
+use crate::lent::bump;
+use crate::lent::bump_or_end;
+use crate::lent::end;
 use crate::look::TwoLeaves;
 use crate::look::peek_two_leaves;
 use crate::look::token_tree;
 use crate::plan::Answer;
-use crate::plan::Change;
-use crate::plan::Opening;
-use crate::plan::plan_bump;
-use crate::plan::plan_bump_or_end;
-use crate::plan::plan_end;
 use crate::state::At;
 ghost use mathlib.Core.Path.{_≡_};
-ghost use Prim.Native.Nat.{_+_, _<_};
 ghost use Rattle.format.specs.Cursor.{bump, end, bumpOrEnd};
-ghost use Rattle.cursor.specs.Plan.{May};
-ghost use Rattle.cursor.specs.declared.plan.Change.the-variants as changes;
 ghost use Rattle.cursor.specs.Look.{TellsOf, PeeksOf};
-ghost use Rattle.cursor.specs.Moves.{atOf, freshCursor, AppliedTo, Stepped};
+ghost use Rattle.cursor.specs.Moves.{atOf, freshCursor, Stepped};
 
 // The entries below `depth` are the open subtrees.
 pub struct Cursor {
@@ -61,57 +56,33 @@ impl Cursor {
         }
     }
 
-    // An opening writes the one entry behind the open subtrees, and nothing else is written.
-    fn enter(mut self, opening: Opening) -> Cursor
-        requires { ⌜ (self .number + 1 < 4294967296) × (self .depth < 256) ⌝ }
-        ensures { λ r. ⌜ AppliedTo self (changes.Open opening) r ⌝ }
-    {
-        let depth = self.depth;
-        let count = opening.count;
-        self.numbers[depth] = self.number;
-        self.counts[depth] = count.0;
-        self.places[depth] = self.place;
-        self.place = opening.next;
-        self.number = self.number + 1;
-        self.depth = depth + 1;
-        self
-    }
-
-    fn apply(mut self, change: Change) -> Cursor
-        requires { ⌜ May (atOf self) change ⌝ }
-        ensures { λ r. ⌜ AppliedTo self change r ⌝ }
-    {
-        match change {
-            Change::Stay => self,
-            Change::On(next) => {
-                self.place = next;
-                self.number = self.number + 1;
-                self
-            }
-            Change::Shut => {
-                self.depth = self.depth - 1;
-                self
-            }
-            Change::Open(opening) => self.enter(opening),
-        }
-    }
-
     pub fn bump(self, b: &[u8], trees: u32, parts: &[u32], symbols: &[u32]) -> Next
         ensures { λ r. ⌜ Stepped (now (b .entry)) trees (now (parts .entry)) (now (symbols .entry)) bump self r ⌝ }
     {
-        let plan = plan_bump(
+        let mut numbers = self.numbers;
+        let mut counts = self.counts;
+        let mut places = self.places;
+        let at = self.at();
+        let moved = bump(
             b,
             trees,
             parts,
             symbols,
-            self.at(),
-            &self.numbers,
-            &self.counts,
-            &self.places,
+            at,
+            &mut numbers,
+            &mut counts,
+            &mut places,
         );
-        let answer = plan.answer;
-        let change = plan.change;
-        let next = self.apply(change);
+        let answer = moved.answer;
+        let then = moved.at;
+        let next = Cursor {
+            place: then.place,
+            number: then.number,
+            depth: then.depth,
+            numbers: numbers,
+            counts: counts,
+            places: places,
+        };
         Next {
             answer: answer,
             cursor: next,
@@ -121,19 +92,30 @@ impl Cursor {
     pub fn end(self, b: &[u8], trees: u32, parts: &[u32], symbols: &[u32]) -> Next
         ensures { λ r. ⌜ Stepped (now (b .entry)) trees (now (parts .entry)) (now (symbols .entry)) end self r ⌝ }
     {
-        let plan = plan_end(
+        let mut numbers = self.numbers;
+        let mut counts = self.counts;
+        let mut places = self.places;
+        let at = self.at();
+        let moved = end(
             b,
             trees,
             parts,
             symbols,
-            self.at(),
-            &self.numbers,
-            &self.counts,
-            &self.places,
+            at,
+            &mut numbers,
+            &mut counts,
+            &mut places,
         );
-        let answer = plan.answer;
-        let change = plan.change;
-        let next = self.apply(change);
+        let answer = moved.answer;
+        let then = moved.at;
+        let next = Cursor {
+            place: then.place,
+            number: then.number,
+            depth: then.depth,
+            numbers: numbers,
+            counts: counts,
+            places: places,
+        };
         Next {
             answer: answer,
             cursor: next,
@@ -144,19 +126,30 @@ impl Cursor {
         ensures { λ r. ⌜ Stepped (now (b .entry)) trees (now (parts .entry)) (now (symbols .entry)) bumpOrEnd self
             r ⌝ }
     {
-        let plan = plan_bump_or_end(
+        let mut numbers = self.numbers;
+        let mut counts = self.counts;
+        let mut places = self.places;
+        let at = self.at();
+        let moved = bump_or_end(
             b,
             trees,
             parts,
             symbols,
-            self.at(),
-            &self.numbers,
-            &self.counts,
-            &self.places,
+            at,
+            &mut numbers,
+            &mut counts,
+            &mut places,
         );
-        let answer = plan.answer;
-        let change = plan.change;
-        let next = self.apply(change);
+        let answer = moved.answer;
+        let then = moved.at;
+        let next = Cursor {
+            place: then.place,
+            number: then.number,
+            depth: then.depth,
+            numbers: numbers,
+            counts: counts,
+            places: places,
+        };
         Next {
             answer: answer,
             cursor: next,

@@ -6,7 +6,11 @@ use crate::state::MOST_OPEN;
 use decode::decode::TreeAt;
 use decode::decode::TreeRead;
 use decode::decode::decode;
+use decode::judge::tree_at;
 use tree::raw::Descendants;
+use tree::raw::RawAt;
+use tree::raw::RawRead;
+use tree::raw::RawTree;
 use tree::refusal::Refusal;
 use tree::types::TokenTree;
 ghost use mathlib.Core.Path.{_≡_};
@@ -66,14 +70,16 @@ fn done(change: Change) -> Plan
 }
 
 // Over a leaf, or into a subtree: 4 for a 257th that is open.
-fn enter(at: At, here: TreeAt) -> Plan
+fn enter(at: At, here: RawAt) -> Plan
     requires { ⌜ at .number + 1 < 4294967296 ⌝ }
     ensures { λ r. ⌜ Enters at here r ⌝ }
 {
     let tree = here.tree;
     match tree {
-        TokenTree::Leaf(_) => done(Change::On(here.next)),
-        TokenTree::Subtree(subtree) => {
+        RawTree::Punct(_) => done(Change::On(here.next)),
+        RawTree::Ident(_) => done(Change::On(here.next)),
+        RawTree::Literal(_) => done(Change::On(here.next)),
+        RawTree::Subtree(subtree) => {
             if MOST_OPEN <= at.depth {
                 return refuse(4, at.number);
             }
@@ -87,17 +93,17 @@ fn enter(at: At, here: TreeAt) -> Plan
     }
 }
 
-// To the next tree. At the end nothing changes.
+// To the next tree, whose entries are not looked up. At the end nothing changes.
 fn go_on(b: &[u8], trees: u32, parts: &[u32], symbols: &[u32], at: At) -> Plan
     ensures { λ r. ⌜ GoesOn (now (b .entry)) trees (now (parts .entry)) (now (symbols .entry)) at r ⌝ }
 {
     if trees <= at.number {
         return done(Change::Stay);
     }
-    let read = decode(b, parts, symbols, at.number, at.place);
+    let read = tree_at(b, parts.len() / 3, symbols.len(), at.number, at.place);
     match read {
-        TreeRead::Refused(number) => refuse(number, at.number),
-        TreeRead::Got(here) => enter(at, here),
+        RawRead::Bad(number) => refuse(number, at.number),
+        RawRead::Got(here) => enter(at, here),
     }
 }
 

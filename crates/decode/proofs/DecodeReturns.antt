@@ -1,24 +1,27 @@
 -- One law for each return of the functions that look a tree's indices up, with premises as the code's tests and calls give them.
 use Prim.Native.Nat.{ℕ, _+_, _*_, _/_, _<_}
 use mathlib.Core.Bool.{Bool, true, false, _&&_}
-use mathlib.Core.Path.{_≡_, refl, sym, ap, subst}
+use mathlib.Core.Path.{_≡_, refl, sym, ap, _∙_, subst}
+use mathlib.Core.Logic.{_⊎_, ⊎-elim, inl, inr}
 use mathlib.Core.List.{List}
 use native.Mathlib.Omega.{arith}
-use borrow.Author.Tests.{ltb-true, eqb-true, lt-ltb}
+use borrow.Author.Tests.{ltb-true, eqb-true, ne-eqb}
 use lib.Dec.{ltb, eqb}
 use lib.ListN.{length, getD}
 use Rattle.format.specs.Test.{if_then_else_}
-use Rattle.format.specs.Reader.{Reply, got, bad}
-use Rattle.format.specs.Tree.{Raw, punct, ident, literal, subtree, treeAt}
+use Rattle.format.specs.Reader.{got}
+use Rattle.format.specs.Tree.{Raw, treeAt}
 use Rattle.format.specs.Fields.{fields}
-use Rattle.format.specs.Tables.{TableRules, rules, indexedBelow, indexedRoot, rowEight, countRules, ownTables}
-use Rattle.format.specs.Buffer.{formed, judge}
+use Rattle.format.specs.Tables.{rules, ownTables}
+use Rattle.format.specs.Buffer.{formed, unless}
 use Rattle.format.proofs.Each.{and-left, and-right, true-false}
 use Rattle.pack.specs.Answer.{spanOf}
 use Rattle.pack.specs.declared.span.PackedSpan.{PackedSpan}
-use Rattle.tree.specs.Raw.{rawOf, rawAnswer}
+use Rattle.tree.specs.Raw.{rawOf, punctRaw, identRaw, literalRaw, subtreeRaw, rawAnswer, inRange}
 use Rattle.tree.specs.Types.{spacingOf, isRawOf, delimiterOf, litKindOf, spanWith, punctWith, identWith, literalWith, subtreeWith, resolved}
-use Rattle.decode.specs.Decode.{treeAnswer, decodedAt, inTables}
+use Rattle.decode.specs.Judge.{rowFrom, rowOf}
+use Rattle.decode.specs.Decode.{treeAnswer, decodedAt, shownAs}
+use Rattle.tree.specs.declared.raw.ChildrenBytes.{ChildrenBytes}
 use Rattle.tree.specs.declared.raw.Descendants.{Descendants}
 use Rattle.tree.specs.declared.raw.RawPunct.{RawPunct}
 use Rattle.tree.specs.declared.raw.RawIdent.{RawIdent}
@@ -41,8 +44,8 @@ use Rattle.tree.specs.declared.types.TokenTree.{TokenTree}
 use Rattle.tree.specs.declared.types.TokenTree.the-variants as trees
 use Rattle.decode.specs.declared.decode.TreeRead.{TreeRead}
 use Rattle.decode.specs.declared.decode.TreeRead.the-variants.{Got, Refused}
-use Rattle.decode.proofs.ReadUse.{reply-bad}
-use Rattle.decode.proofs.JudgeUse.{Passed, judged-read, judged-passed}
+use Rattle.decode.proofs.ReadUse.{reply-bad, raw-read, raw-fits}
+use Rattle.decode.proofs.JudgeReturns.{row-formed, bad-judged, row-judged}
 
 -- ---- entries
 
@@ -69,161 +72,186 @@ module _ (parts : List ℕ) (q : PackedSpan) (s : Span) (e : s ≡ spanWith part
       → _≡_ {A = types.Subtree} (record { opening = s; closing = t; len = n; kind = y }) (subtreeWith parts (spanOf q) (spanOf o) (n .0) d)
   whole-subtree o t n d y f g = rw (e, f, g)
 
--- an index that passes row 8 lies in its table
-below : (i n : ℕ) → ltb (i + 2) n ≡ true → ltb i n ≡ true
-below i n e = let h : i + 2 < n = ltb-true (i + 2) n e in let k : i < n = omega arith in lt-ltb i n k
+pub ruleset entry-cases = (entry-span, entry-symbol, leaf-punct, leaf-ident, leaf-literal, whole-subtree)
 
-root : (i n : ℕ) → eqb (i + 2) n ≡ true → ltb i n ≡ true
-root i n e = let h : i + 2 ≡ n = eqb-true (i + 2) n e in let k : i < n = omega arith in lt-ltb i n k
+-- ---- an index that passes its row lies in its table
 
-root′ : (i n : ℕ) → eqb (i + 1) n ≡ true → ltb i n ≡ true
-root′ i n e = let h : i + 1 ≡ n = eqb-true (i + 1) n e in let k : i < n = omega arith in lt-ltb i n k
+below : (i n : ℕ) → ltb (i + 2) n ≡ true → i < n
+below i n e = let h : i + 2 < n = ltb-true (i + 2) n e in omega arith
 
-both : (a b : Bool) → a ≡ true → b ≡ true → (a && b) ≡ true
-both a b e f = rw (e, f)
+root : (i n : ℕ) → eqb (i + 2) n ≡ true → i < n
+root i n e = let h : i + 2 ≡ n = eqb-true (i + 2) n e in omega arith
 
-module _ (P S : ℕ) where
-  leaf-in : (i j : ℕ) → (ltb (i + 2) P && ltb j S) ≡ true → (ltb i P && ltb j S) ≡ true
-  leaf-in i j e =
-      let a = ltb (i + 2) P in
-      let b = ltb j S in
-      both _ _ (below i P (and-left a b e)) (and-right a b e)
+root′ : (i n : ℕ) → eqb (i + 1) n ≡ true → i < n
+root′ i n e = let h : i + 1 ≡ n = eqb-true (i + 1) n e in omega arith
 
-  below-in : (t : Raw) → indexedBelow P S t ≡ true → inTables P S t ≡ true
-  below-in (punct s c x) e = below (s .index) P e
-  below-in (ident s i r) e = leaf-in (s .index) i e
-  below-in (literal s i k r x) e = leaf-in (s .index) i e
-  below-in (subtree s t n d) e =
-      let a = ltb (s .index + 2) P in
-      let b = ltb (t .index + 2) P in
-      both _ _ (below (s .index) P (and-left a b e)) (below (t .index) P (and-right a b e))
-
-  root-in : (t : Raw) → indexedRoot P S t ≡ true → inTables P S t ≡ true
-  root-in (punct s c x) e = true-false false e refl
-  root-in (ident s i r) e = true-false false e refl
-  root-in (literal s i k r x) e = true-false false e refl
-  root-in (subtree s t n d) e =
-      let a = eqb (s .index + 2) P in
-      let b = eqb (t .index + 1) P in
-      both _ _ (root (s .index) P (and-left a b e)) (root′ (t .index) P (and-right a b e))
-
-  row-in : (n : ℕ) (t : Raw) → rowEight P S n t ≡ 0 → inTables P S t ≡ true
-  row-in n t e = go (eqb n 0) (indexedRoot P S t) (indexedBelow P S t) refl refl refl e
+module _ (n at next : ℕ) (x y : Bool) (row : ℕ) (j : row ≡ rowFrom n at next x y) (l : row ≡ 0) where
+  -- row 0 is that of a root with a root's indices, or of another tree with that one's
+  row-zero : (x ≡ true) ⊎ (y ≡ true)
+  unfolding rowFrom
+  row-zero = go (formed n at next) (eqb n 0) x y refl refl refl refl (sym j ∙ l)
     where
-      eight : {A : Type 0} → _≡_ {A = ℕ} 8 0 → A
-      eight h = absurd (omega arith)
+      no : {A : Type 0} (k : ℕ) → 0 < k → k ≡ 0 → A
+      no k h e = absurd (omega arith)
 
-      go : (z x y : Bool) → eqb n 0 ≡ z → indexedRoot P S t ≡ x → indexedBelow P S t ≡ y → _≡_ {A = ℕ} (if (if z then x else y) then 0 else 8) 0 → inTables P S t ≡ true
-      go true true y f g h e = root-in t g
-      go true false y f g h e = eight e
-      go false x true f g h e = below-in t h
-      go false x false f g h e = eight e
+      go : (f z u v : Bool) → formed n at next ≡ f → eqb n 0 ≡ z → x ≡ u → y ≡ v → rowFrom n at next x y ≡ 0 → (x ≡ true) ⊎ (y ≡ true)
+      go f z true v a b c d e = inl c
+      go f z false true a b c d e = inr d
+      go false z false false a b c d e = let k : _≡_ {A = ℕ} 2 0 = simp a at e in no 2 (omega arith) k
+      go true true false false a b c d e =
+          let m : _≡_ {A = ℕ} (if (if eqb n 0 then x else y) then 0 else 8) 0 = sym (row-formed n at next x y a) ∙ e in
+          let k : _≡_ {A = ℕ} 8 0 = simp (b, c) at m in
+          no 8 (omega arith) k
+      go true false false false a b c d e =
+          let m : _≡_ {A = ℕ} (if (if eqb n 0 then x else y) then 0 else 8) 0 = sym (row-formed n at next x y a) ∙ e in
+          let k : _≡_ {A = ℕ} 8 0 = simp (b, d) at m in
+          no 8 (omega arith) k
 
-two-below : (i m j n : ℕ) → (ltb i m && ltb j n) ≡ true → (i < m) × (j < n)
-two-below i m j n e = (ltb-true i m (and-left (ltb i m) (ltb j n) e), ltb-true j n (and-right (ltb i m) (ltb j n) e))
+module _ (n at next row : ℕ) (y : Bool) (j : row ≡ rowFrom n at next false y) (l : row ≡ 0) where
+  leaf-zero : y ≡ true
+  leaf-zero = ⊎-elim (λ e. true-false false e refl) (λ e. e) (row-zero n at next false y row j l)
 
-module _ (P S : ℕ) (t : RawTree) (h : inTables P S (rawOf t) ≡ true) where
-  pub punct-part : (p : RawPunct) → t ≡ Punct p → p .span .index < P
+module _ (n at next row P : ℕ) (l : row ≡ 0) where
+  pub punct-part : (i : ℕ) → row ≡ rowFrom n at next false (ltb (i + 2) P) → i < P
+  punct-part i j = below i P (leaf-zero n at next row (ltb (i + 2) P) j l)
+
+  module _ (S i k : ℕ) (j : row ≡ rowFrom n at next false (ltb (i + 2) P && ltb k S)) where
+    symbol-zero : (ltb (i + 2) P && ltb k S) ≡ true
+    symbol-zero = leaf-zero n at next row (ltb (i + 2) P && ltb k S) j l
+
+    pub symbol-part : i < P
+    symbol-part = below i P (and-left (ltb (i + 2) P) (ltb k S) symbol-zero)
+
+    pub symbol-symbol : k < S
+    symbol-symbol = ltb-true k S (and-right (ltb (i + 2) P) (ltb k S) symbol-zero)
+
+  module _ (i k : ℕ) (j : row ≡ rowFrom n at next (eqb (i + 2) P && eqb (k + 1) P) (ltb (i + 2) P && ltb (k + 2) P)) where
+    two-zero : ((eqb (i + 2) P && eqb (k + 1) P) ≡ true) ⊎ ((ltb (i + 2) P && ltb (k + 2) P) ≡ true)
+    two-zero = row-zero n at next (eqb (i + 2) P && eqb (k + 1) P) (ltb (i + 2) P && ltb (k + 2) P) row j l
+
+    pub open-part : i < P
+    open-part =
+        ⊎-elim (λ e. root i P (and-left (eqb (i + 2) P) (eqb (k + 1) P) e)) (λ e. below i P (and-left (ltb (i + 2) P) (ltb (k + 2) P) e)) two-zero
+
+    pub close-part : k < P
+    close-part =
+        ⊎-elim (λ e. root′ k P (and-right (eqb (i + 2) P) (eqb (k + 1) P) e)) (λ e. below k P (and-right (ltb (i + 2) P) (ltb (k + 2) P) e)) two-zero
+
+-- ---- a tree that was read
+
+module _ (parts symbols : List ℕ) (n at next : ℕ) (kids : ChildrenBytes) (row : ℕ) where
+  module _ (t : Raw) (f : fields t ≡ true) (j : row ≡ rowOf (length parts / 3) (length symbols) n at next t) where
+    by-row : shownAs parts symbols n at next (kids .0) t ≡ unless row (got (resolved parts symbols t) next (kids .0))
+    unfolding shownAs
+    by-row = rw j (row-judged (λ m t. resolved parts symbols t) (rules (ownTables parts symbols)) n at (length parts / 3) (length symbols) (λ t. refl) t next (kids .0) f)
+
+    refused : (row ≡ 0 → ⊥) → Refused row ≡ treeAnswer (shownAs parts symbols n at next (kids .0) t)
+    unfolding treeAnswer
+    refused l = rw by-row (simp (ne-eqb _ _ l))
+
+    found : row ≡ 0 → (u : TokenTree) → u ≡ resolved parts symbols t → Got (record { tree = u; next = next; children = kids }) ≡ treeAnswer (shownAs parts symbols n at next (kids .0) t)
+    unfolding treeAnswer
+    found l u q = rw (by-row, l, q)
+
+  module _ (p : RawPunct) (f : fields (punctRaw p) ≡ true) (j : row ≡ rowFrom n at next false (ltb (p .span .index + 2) (length parts / 3))) where
+    pub punct-refused : (row ≡ 0 → ⊥) → Refused row ≡ treeAnswer (shownAs parts symbols n at next (kids .0) (punctRaw p))
+    punct-refused l = refused (punctRaw p) f j l
+
+    pub punct-found : row ≡ 0 → (y : Leaf) → y ≡ punctWith parts (spanOf (p .span)) (p .char) (p .spacing)
+        → Got (record { tree = trees.Leaf y; next = next; children = kids }) ≡ treeAnswer (shownAs parts symbols n at next (kids .0) (punctRaw p))
+    unfolding resolved
+    punct-found l y q = found (punctRaw p) f j l (trees.Leaf y) (ap trees.Leaf q)
+
+  module _ (p : RawIdent) (f : fields (identRaw p) ≡ true) (j : row ≡ rowFrom n at next false (ltb (p .span .index + 2) (length parts / 3) && ltb (p .symbol) (length symbols))) where
+    pub ident-refused : (row ≡ 0 → ⊥) → Refused row ≡ treeAnswer (shownAs parts symbols n at next (kids .0) (identRaw p))
+    ident-refused l = refused (identRaw p) f j l
+
+    pub ident-found : row ≡ 0 → (y : Leaf) → y ≡ identWith parts symbols (spanOf (p .span)) (p .symbol) (p .raw)
+        → Got (record { tree = trees.Leaf y; next = next; children = kids }) ≡ treeAnswer (shownAs parts symbols n at next (kids .0) (identRaw p))
+    unfolding resolved
+    ident-found l y q = found (identRaw p) f j l (trees.Leaf y) (ap trees.Leaf q)
+
+  module _ (p : RawLiteral) (f : fields (literalRaw p) ≡ true) (j : row ≡ rowFrom n at next false (ltb (p .span .index + 2) (length parts / 3) && ltb (p .symbol) (length symbols))) where
+    pub literal-refused : (row ≡ 0 → ⊥) → Refused row ≡ treeAnswer (shownAs parts symbols n at next (kids .0) (literalRaw p))
+    literal-refused l = refused (literalRaw p) f j l
+
+    pub literal-found : row ≡ 0 → (y : Leaf) → y ≡ literalWith parts symbols (spanOf (p .span)) (p .symbol) (p .kind) (p .«raw_count») (p .«suffix_len»)
+        → Got (record { tree = trees.Leaf y; next = next; children = kids }) ≡ treeAnswer (shownAs parts symbols n at next (kids .0) (literalRaw p))
+    unfolding resolved
+    literal-found l y q = found (literalRaw p) f j l (trees.Leaf y) (ap trees.Leaf q)
+
+  module _ (p : RawSubtree) (f : fields (subtreeRaw p) ≡ true) (j : row ≡ rowFrom n at next
+      (eqb (p .opening .index + 2) (length parts / 3) && eqb (p .closing .index + 1) (length parts / 3))
+      (ltb (p .opening .index + 2) (length parts / 3) && ltb (p .closing .index + 2) (length parts / 3))) where
+    pub subtree-refused : (row ≡ 0 → ⊥) → Refused row ≡ treeAnswer (shownAs parts symbols n at next (kids .0) (subtreeRaw p))
+    subtree-refused l = refused (subtreeRaw p) f j l
+
+    pub subtree-found : row ≡ 0 → (y : types.Subtree) → y ≡ subtreeWith parts (spanOf (p .opening)) (spanOf (p .closing)) (p .len .0) (p .kind)
+        → Got (record { tree = trees.Subtree y; next = next; children = kids }) ≡ treeAnswer (shownAs parts symbols n at next (kids .0) (subtreeRaw p))
+    unfolding resolved
+    subtree-found l y q = found (subtreeRaw p) f j l (trees.Subtree y) (ap trees.Subtree q)
+
+pub ruleset found-cases = (
+  punct-part, symbol-part, symbol-symbol, open-part,
+  punct-refused, punct-found, ident-refused, ident-found, literal-refused, literal-found, subtree-refused, subtree-found,
+)
+
+-- the close part beside the open one's law is too much for one search
+pub ruleset close-cases = (close-part)
+
+-- ---- by its sort
+
+module _ (t : RawTree) (h : fields (rawOf t) ≡ true) where
+  pub punct-fits : (p : RawPunct) → t ≡ Punct p → fields (punctRaw p) ≡ true
   unfolding rawOf
-  punct-part p e = ltb-true (p .span .index) P (subst (λ (u : RawTree). inTables P S (rawOf u) ≡ true) e h)
+  punct-fits p e = subst (λ (u : RawTree). fields (rawOf u) ≡ true) e h
 
-  module _ (p : RawIdent) (e : t ≡ Ident p) where
-    ident-in : (p .span .index < P) × (p .symbol < S)
-    unfolding rawOf
-    ident-in = two-below (p .span .index) P (p .symbol) S (subst (λ (u : RawTree). inTables P S (rawOf u) ≡ true) e h)
+  pub ident-fits : (p : RawIdent) → t ≡ Ident p → fields (identRaw p) ≡ true
+  unfolding rawOf
+  ident-fits p e = subst (λ (u : RawTree). fields (rawOf u) ≡ true) e h
 
-    pub ident-part : p .span .index < P
-    ident-part = ident-in .0
+  pub literal-fits : (p : RawLiteral) → t ≡ Literal p → fields (literalRaw p) ≡ true
+  unfolding rawOf
+  literal-fits p e = subst (λ (u : RawTree). fields (rawOf u) ≡ true) e h
 
-    pub ident-symbol : p .symbol < S
-    ident-symbol = ident-in .1
+  pub subtree-fits : (p : RawSubtree) → t ≡ Subtree p → fields (subtreeRaw p) ≡ true
+  unfolding rawOf
+  subtree-fits p e = subst (λ (u : RawTree). fields (rawOf u) ≡ true) e h
 
-  module _ (p : RawLiteral) (e : t ≡ Literal p) where
-    literal-in : (p .span .index < P) × (p .symbol < S)
-    unfolding rawOf
-    literal-in = two-below (p .span .index) P (p .symbol) S (subst (λ (u : RawTree). inTables P S (rawOf u) ≡ true) e h)
+module _ (parts symbols : List ℕ) (n at next kids : ℕ) (t : RawTree) (r : TreeRead) where
+  pub sort-punct : (p : RawPunct) → t ≡ Punct p → r ≡ treeAnswer (shownAs parts symbols n at next kids (punctRaw p)) → r ≡ treeAnswer (shownAs parts symbols n at next kids (rawOf t))
+  unfolding rawOf
+  sort-punct p e q = q ∙ rw e
 
-    pub literal-part : p .span .index < P
-    literal-part = literal-in .0
+  pub sort-ident : (p : RawIdent) → t ≡ Ident p → r ≡ treeAnswer (shownAs parts symbols n at next kids (identRaw p)) → r ≡ treeAnswer (shownAs parts symbols n at next kids (rawOf t))
+  unfolding rawOf
+  sort-ident p e q = q ∙ rw e
 
-    pub literal-symbol : p .symbol < S
-    literal-symbol = literal-in .1
+  pub sort-literal : (p : RawLiteral) → t ≡ Literal p → r ≡ treeAnswer (shownAs parts symbols n at next kids (literalRaw p)) → r ≡ treeAnswer (shownAs parts symbols n at next kids (rawOf t))
+  unfolding rawOf
+  sort-literal p e q = q ∙ rw e
 
-  module _ (p : RawSubtree) (e : t ≡ Subtree p) where
-    subtree-in : (p .opening .index < P) × (p .closing .index < P)
-    unfolding rawOf
-    subtree-in = two-below (p .opening .index) P (p .closing .index) P (subst (λ (u : RawTree). inTables P S (rawOf u) ≡ true) e h)
+  pub sort-subtree : (p : RawSubtree) → t ≡ Subtree p → r ≡ treeAnswer (shownAs parts symbols n at next kids (subtreeRaw p)) → r ≡ treeAnswer (shownAs parts symbols n at next kids (rawOf t))
+  unfolding rawOf
+  sort-subtree p e q = q ∙ rw e
 
-    pub open-part : p .opening .index < P
-    open-part = subtree-in .0
-
-    pub close-part : p .closing .index < P
-    close-part = subtree-in .1
-
-module _ (parts symbols : List ℕ) (t : RawTree) where
-  pub resolve-punct : (p : RawPunct) (y : Leaf) → t ≡ Punct p → y ≡ punctWith parts (spanOf (p .span)) (p .char) (p .spacing)
-      → trees.Leaf y ≡ resolved parts symbols (rawOf t)
-  unfolding rawOf resolved
-  resolve-punct p y e q = rw (e, q)
-
-  pub resolve-ident : (p : RawIdent) (y : Leaf) → t ≡ Ident p → y ≡ identWith parts symbols (spanOf (p .span)) (p .symbol) (p .raw)
-      → trees.Leaf y ≡ resolved parts symbols (rawOf t)
-  unfolding rawOf resolved
-  resolve-ident p y e q = rw (e, q)
-
-  pub resolve-literal : (p : RawLiteral) (y : Leaf) → t ≡ Literal p → y ≡ literalWith parts symbols (spanOf (p .span)) (p .symbol) (p .kind) (p .«raw_count») (p .«suffix_len»)
-      → trees.Leaf y ≡ resolved parts symbols (rawOf t)
-  unfolding rawOf resolved
-  resolve-literal p y e q = rw (e, q)
-
-  pub resolve-subtree : (p : RawSubtree) (y : types.Subtree) → t ≡ Subtree p → y ≡ subtreeWith parts (spanOf (p .opening)) (spanOf (p .closing)) (p .len .0) (p .kind)
-      → trees.Subtree y ≡ resolved parts symbols (rawOf t)
-  unfolding rawOf resolved
-  resolve-subtree p y e q = rw (e, q)
-
-pub ruleset resolve-cases = (entry-span, entry-symbol, leaf-punct, leaf-ident, leaf-literal, whole-subtree, punct-part, ident-part, ident-symbol, literal-part, literal-symbol, open-part, close-part, resolve-punct, resolve-ident, resolve-literal, resolve-subtree)
+pub ruleset sort-cases = (punct-fits, ident-fits, literal-fits, subtree-fits, sort-punct, sort-ident, sort-literal, sort-subtree)
 
 -- ---- tree n at a place
 
-abbrev shown : {A : Type 0} → (Raw → A) → Reply Raw → Reply A
-shown f (got t m k) = got (f t) m k
-shown f (bad i) = bad i
-
--- how a tree is shown, and what the tables' sizes say beside row 8, changes no refusal of it
-module _ {A : Type 0} (f : ℕ → Raw → A) (T T′ : TableRules) (n p : ℕ) (same : (t : Raw) → T .judged n t ≡ T′ .judged n t) where
-  bad-shown : (z : Reply Raw) (r : ℕ) → judge (λ n t. t) T n p z ≡ bad r → judge f T′ n p z ≡ bad r
-  unfolding judge
-  bad-shown (bad j) r e = ap (shown (f n)) e
-  bad-shown (got t m k) r e = go (formed n p m) (fields t) (eqb (T .judged n t) 0) refl refl refl
-    where
-      go : (x y w : Bool) → formed n p m ≡ x → fields t ≡ y → eqb (T .judged n t) 0 ≡ w → judge f T′ n p (got t m k) ≡ bad r
-      go false y w a b c = let d : bad 2 ≡ bad r = simp a at e in simp a (ap (shown (f n)) d)
-      go true false w a b c = let d : bad 2 ≡ bad r = simp (a, b) at e in simp (a, b) (ap (shown (f n)) d)
-      go true true false a b c = let d : bad (T .judged n t) ≡ bad r = simp (a, b, c) at e in simp (a, b, ← same t, c) (ap (shown (f n)) d)
-      go true true true a b c = let d : got t m k ≡ bad r = simp (a, b, c) at e in simp (a, b, ← same t, c) (ap (shown (f n)) d)
-
-module _ (b parts symbols : List ℕ) (n at : ℕ) (r : RawRead) (e : r ≡ rawAnswer (judge (λ n t. t) (countRules (length parts / 3) (length symbols)) n at (treeAt b at))) where
+module _ (b parts symbols : List ℕ) (n at : ℕ) (r : RawRead) (e : r ≡ rawAnswer (inRange (treeAt b at))) where
   pub decode-bad : (k : ℕ) → r ≡ raws.Bad k → Refused k ≡ treeAnswer (decodedAt b parts symbols n at)
   unfolding treeAnswer decodedAt
   decode-bad k q =
-      let T : TableRules = countRules (length parts / 3) (length symbols) in
-      let d = reply-bad (judge (λ n t. t) T n at (treeAt b at)) r e k q in
-      sym (ap treeAnswer (bad-shown (λ m t. resolved parts symbols t) T (rules (ownTables parts symbols)) n at (λ t. refl) (treeAt b at) k d))
+      sym (ap treeAnswer
+      (bad-judged (λ m t. resolved parts symbols t) (rules (ownTables parts symbols)) n at (treeAt b at) k (reply-bad (inRange (treeAt b at)) r e k q)))
 
   module _ (y : RawAt) (q : r ≡ raws.Got y) where
-    passed : Passed (countRules (length parts / 3) (length symbols)) n at (rawOf (y .tree)) (y .next)
-    passed = judged-passed b (countRules (length parts / 3) (length symbols)) n at r e y q
+    pub decode-fits : fields (rawOf (y .tree)) ≡ true
+    decode-fits = raw-fits b at r e y q
 
-    pub decode-in : inTables (length parts / 3) (length symbols) (rawOf (y .tree)) ≡ true
-    decode-in = row-in (length parts / 3) (length symbols) n (rawOf (y .tree)) (passed .row)
+    pub decode-found : (x : TreeRead) → x ≡ treeAnswer (shownAs parts symbols n at (y .next) (y .children .0) (rawOf (y .tree))) → x ≡ treeAnswer (decodedAt b parts symbols n at)
+    unfolding decodedAt shownAs
+    decode-found x f = rw (raw-read b at r e y q) f
 
-    pub decode-got : (t : TokenTree) → t ≡ resolved parts symbols (rawOf (y .tree)) → Got (record { tree = t; next = y .next; children = y .children }) ≡ treeAnswer (decodedAt b parts symbols n at)
-    unfolding treeAnswer decodedAt judge
-    decode-got t f =
-        let z = judged-read b (countRules (length parts / 3) (length symbols)) n at r e y q in
-        let a : formed n at (y .next) ≡ true = passed .form in
-        let c : fields (rawOf (y .tree)) ≡ true = passed .fits in
-        let d : rowEight (length parts / 3) (length symbols) n (rawOf (y .tree)) ≡ 0 = passed .row in
-        rw (f, z) (simp (a, c, d))
-
-pub ruleset decode-cases = (decode-bad, decode-in, decode-got)
+pub ruleset decode-cases = (decode-bad, decode-fits, decode-found)

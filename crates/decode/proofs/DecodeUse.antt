@@ -9,15 +9,21 @@ use lib.ListN.{length}
 use Rattle.format.specs.Reader.{Reply, got, bad}
 use Rattle.format.specs.Tree.{Raw, treeAt}
 use Rattle.format.specs.Fields.{fields}
-use Rattle.format.specs.Tables.{treeWords, rowEight, rules, ownTables}
+use Rattle.format.specs.Tables.{TableRules, treeWords, rowEight, rules, countRules, ownTables}
 use Rattle.format.specs.Buffer.{formed, judge, ownReader}
+use Rattle.tree.specs.Raw.{rawOf, rawAnswer}
 use Rattle.tree.specs.Types.{resolved, treeWordsOf}
 use Rattle.decode.specs.Decode.{treeAnswer, decodedAt}
+use Rattle.tree.specs.declared.raw.RawAt.{RawAt}
+use Rattle.tree.specs.declared.raw.RawRead.{RawRead}
+use Rattle.tree.specs.declared.raw.RawRead.the-variants as raws
 use Rattle.tree.specs.declared.types.TokenTree.{TokenTree}
 use Rattle.decode.specs.declared.decode.TreeAt.{TreeAt}
 use Rattle.decode.specs.declared.decode.TreeRead.{TreeRead}
 use Rattle.decode.specs.declared.decode.TreeRead.the-variants.{Got, Refused}
 use Rattle.tree.proofs.TypesWords.{resolved-words}
+use Rattle.decode.proofs.ReadUse.{reply-bad}
+use Rattle.decode.proofs.JudgeUse.{judged-read, judged-passed}
 
 -- ---- answers and replies
 
@@ -70,3 +76,41 @@ module _ (parts symbols : List ℕ) (n at : ℕ) where
   pub decoded-words : (b : List ℕ) (k : ℕ) → worded (decodedAt b parts symbols n at) ≡ ownReader b k parts symbols .read n at
   unfolding decodedAt ownReader
   decoded-words b k = words-judged (treeAt b at)
+
+-- ---- a tree that was judged by the sizes of the tables, without its entries
+
+abbrev shown : {A : Type 0} → (Raw → A) → Reply Raw → Reply A
+shown f (got t m k) = got (f t) m k
+shown f (bad i) = bad i
+
+-- how a tree is shown, and what the tables' sizes say beside row 8, changes no refusal of it
+module _ {A : Type 0} (f : ℕ → Raw → A) (T T′ : TableRules) (n p : ℕ) (same : (t : Raw) → T .judged n t ≡ T′ .judged n t) where
+  bad-shown : (z : Reply Raw) (r : ℕ) → judge (λ n t. t) T n p z ≡ bad r → judge f T′ n p z ≡ bad r
+  unfolding judge
+  bad-shown (bad j) r e = ap (shown (f n)) e
+  bad-shown (got t m k) r e = go (formed n p m) (fields t) (eqb (T .judged n t) 0) refl refl refl
+    where
+      go : (x y w : Bool) → formed n p m ≡ x → fields t ≡ y → eqb (T .judged n t) 0 ≡ w → judge f T′ n p (got t m k) ≡ bad r
+      go false y w a b c = let d : bad 2 ≡ bad r = simp a at e in simp a (ap (shown (f n)) d)
+      go true false w a b c = let d : bad 2 ≡ bad r = simp (a, b) at e in simp (a, b) (ap (shown (f n)) d)
+      go true true false a b c = let d : bad (T .judged n t) ≡ bad r = simp (a, b, c) at e in simp (a, b, ← same t, c) (ap (shown (f n)) d)
+      go true true true a b c = let d : got t m k ≡ bad r = simp (a, b, c) at e in simp (a, b, ← same t, c) (ap (shown (f n)) d)
+
+module _ (b parts symbols : List ℕ) (n at : ℕ) (r : RawRead) (e : r ≡ rawAnswer (judge (λ n t. t) (countRules (length parts / 3) (length symbols)) n at (treeAt b at))) where
+  pub sized-refused : (k : ℕ) → r ≡ raws.Bad k → decodedAt b parts symbols n at ≡ bad k
+  unfolding decodedAt
+  sized-refused k q =
+      let T : TableRules = countRules (length parts / 3) (length symbols) in
+      let d = reply-bad (judge (λ n t. t) T n at (treeAt b at)) r e k q in
+      bad-shown (λ m t. resolved parts symbols t) T (rules (ownTables parts symbols)) n at (λ t. refl) (treeAt b at) k d
+
+  pub sized-got : (y : RawAt) → r ≡ raws.Got y → decodedAt b parts symbols n at ≡ got (resolved parts symbols (rawOf (y .tree))) (y .next) (y .children .0)
+  unfolding decodedAt judge
+  sized-got y q =
+      let T : TableRules = countRules (length parts / 3) (length symbols) in
+      let z = judged-read b T n at r e y q in
+      let passed = judged-passed b T n at r e y q in
+      let a : formed n at (y .next) ≡ true = passed .form in
+      let c : fields (rawOf (y .tree)) ≡ true = passed .fits in
+      let d : rowEight (length parts / 3) (length symbols) n (rawOf (y .tree)) ≡ 0 = passed .row in
+      rw z (simp (a, c, d))

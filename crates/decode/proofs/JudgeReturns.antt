@@ -1,16 +1,17 @@
 -- One law for each return of the functions that judge a tree, with premises as the code's tests and calls give them.
 use Prim.Native.Nat.{ℕ, _+_, _-_, _<_, _≤_}
 use mathlib.Core.Bool.{Bool, true, false, not, _&&_}
-use mathlib.Core.Path.{_≡_, refl, sym, _∙_}
+use mathlib.Core.Path.{_≡_, refl, sym, ap, _∙_}
 use mathlib.Core.List.{List}
 use native.Mathlib.Omega.{arith}
 use borrow.Author.Tests.{lt-ltb, le-ltb, eq-eqb, ne-eqb, not-true, not-false}
 use lib.Dec.{ltb, eqb}
+use Rattle.format.specs.Test.{if_then_else_}
 use Rattle.format.specs.Reader.{Reply, got, bad}
 use Rattle.format.specs.Tree.{Raw, treeAt}
 use Rattle.format.specs.Fields.{fields}
-use Rattle.format.specs.Tables.{TableRules, indexedBelow, indexedRoot, rowEight, countRules}
-use Rattle.format.specs.Buffer.{formed, judge}
+use Rattle.format.specs.Tables.{TableRules, rowEight, countRules}
+use Rattle.format.specs.Buffer.{formed, unless, judge}
 use Rattle.tree.specs.Raw.{rawOf, rawAnswer, inRange}
 use Rattle.tree.specs.declared.raw.RawPunct.{RawPunct}
 use Rattle.tree.specs.declared.raw.RawIdent.{RawIdent}
@@ -21,6 +22,7 @@ use Rattle.tree.specs.declared.raw.RawTree.{RawTree}
 use Rattle.tree.specs.declared.raw.RawTree.the-variants.{Punct, Ident, Literal, Subtree}
 use Rattle.tree.specs.declared.raw.RawRead.{RawRead}
 use Rattle.tree.specs.declared.raw.RawRead.the-variants.{Got, Bad}
+use Rattle.decode.specs.Judge.{rowFrom, rowOf}
 use Rattle.decode.proofs.ReadUse.{reply-bad, reply-got, raw-read, raw-fits}
 
 -- ---- indices
@@ -64,62 +66,6 @@ module _ (i j k l m : ℕ) (e : i ≡ k) (f : j ≡ l) where
 
 pub ruleset index-cases = (part-out, part-here, symbol-out, symbol-here, both-out, both-here, first-out, second-out, roots-here)
 
--- ---- a tree's indices
-
-module _ (parts symbols : ℕ) (t : RawTree) where
-  module _ (p : RawPunct) (e : t ≡ Punct p) where
-    pub below-punct : (y : Bool) → y ≡ ltb (p .span .index + 2) parts → y ≡ indexedBelow parts symbols (rawOf t)
-    unfolding rawOf
-    below-punct y q = q ∙ rw e
-
-    pub root-punct : false ≡ indexedRoot parts symbols (rawOf t)
-    unfolding rawOf
-    root-punct = rw e
-
-  module _ (p : RawIdent) (e : t ≡ Ident p) where
-    pub below-ident : (y : Bool) → y ≡ (ltb (p .span .index + 2) parts && ltb (p .symbol) symbols) → y ≡ indexedBelow parts symbols (rawOf t)
-    unfolding rawOf
-    below-ident y q = q ∙ rw e
-
-    pub root-ident : false ≡ indexedRoot parts symbols (rawOf t)
-    unfolding rawOf
-    root-ident = rw e
-
-  module _ (p : RawLiteral) (e : t ≡ Literal p) where
-    pub below-literal : (y : Bool) → y ≡ (ltb (p .span .index + 2) parts && ltb (p .symbol) symbols) → y ≡ indexedBelow parts symbols (rawOf t)
-    unfolding rawOf
-    below-literal y q = q ∙ rw e
-
-    pub root-literal : false ≡ indexedRoot parts symbols (rawOf t)
-    unfolding rawOf
-    root-literal = rw e
-
-  module _ (p : RawSubtree) (e : t ≡ Subtree p) (y : Bool) where
-    pub below-subtree : y ≡ (ltb (p .opening .index + 2) parts && ltb (p .closing .index + 2) parts) → y ≡ indexedBelow parts symbols (rawOf t)
-    unfolding rawOf
-    below-subtree q = q ∙ rw e
-
-    pub root-subtree : y ≡ (eqb (p .opening .index + 2) parts && eqb (p .closing .index + 1) parts) → y ≡ indexedRoot parts symbols (rawOf t)
-    unfolding rawOf
-    root-subtree q = q ∙ rw e
-
-  module _ (n : ℕ) (y : Bool) where
-    module _ (h : n ≡ 0) (e : y ≡ indexedRoot parts symbols (rawOf t)) where
-      pub root-0 : y ≡ true → 0 ≡ rowEight parts symbols n (rawOf t)
-      root-0 f = let d : indexedRoot parts symbols (rawOf t) ≡ true = sym e ∙ f in simp (eq-eqb _ _ h, d)
-
-      pub root-8 : y ≡ false → 8 ≡ rowEight parts symbols n (rawOf t)
-      root-8 f = let d : indexedRoot parts symbols (rawOf t) ≡ false = sym e ∙ f in simp (eq-eqb _ _ h, d)
-
-    module _ (h : n ≡ 0 → ⊥) (e : y ≡ indexedBelow parts symbols (rawOf t)) where
-      pub below-0 : y ≡ true → 0 ≡ rowEight parts symbols n (rawOf t)
-      below-0 f = let d : indexedBelow parts symbols (rawOf t) ≡ true = sym e ∙ f in simp (ne-eqb _ _ h, d)
-
-      pub below-8 : y ≡ false → 8 ≡ rowEight parts symbols n (rawOf t)
-      below-8 f = let d : indexedBelow parts symbols (rawOf t) ≡ false = sym e ∙ f in simp (ne-eqb _ _ h, d)
-
-pub ruleset row-cases = (below-punct, root-punct, below-ident, root-ident, below-literal, root-literal, below-subtree, root-subtree, root-0, root-8, below-0, below-8)
-
 -- ---- the root's form
 
 module _ (n at next : ℕ) where
@@ -137,48 +83,115 @@ module _ (n at next : ℕ) where
       pub form-root : next - 33 ≡ at → true ≡ formed n at next
       form-root k = let d : next ≡ at + 33 = omega arith in simp (eq-eqb _ _ h, eq-eqb _ _ d)
 
+-- ---- the rows by what a tree's indices are
+
+module _ (n at next : ℕ) (root below : Bool) where
+  pub row-formed : formed n at next ≡ true → rowFrom n at next root below ≡ (if (if eqb n 0 then root else below) then 0 else 8)
+  unfolding rowFrom
+  row-formed d = simp d
+
+  module _ (f : Bool) (e : f ≡ formed n at next) where
+    pub row-form : not f ≡ true → 2 ≡ rowFrom n at next root below
+    unfolding rowFrom
+    row-form g = let d : formed n at next ≡ false = sym e ∙ not-true f g in simp d
+
+    module _ (g : not f ≡ false) where
+      here : rowFrom n at next root below ≡ (if (if eqb n 0 then root else below) then 0 else 8)
+      here = row-formed (sym e ∙ not-false f g)
+
+      module _ (h : n ≡ 0) where
+        pub row-root : root ≡ true → 0 ≡ rowFrom n at next root below
+        row-root k = rw here (simp (eq-eqb _ _ h, k))
+
+        pub row-no-root : root ≡ false → 8 ≡ rowFrom n at next root below
+        row-no-root k = rw here (simp (eq-eqb _ _ h, k))
+
+      module _ (h : n ≡ 0 → ⊥) where
+        pub row-below : below ≡ true → 0 ≡ rowFrom n at next root below
+        row-below k = rw here (simp (ne-eqb _ _ h, k))
+
+        pub row-outside : below ≡ false → 8 ≡ rowFrom n at next root below
+        row-outside k = rw here (simp (ne-eqb _ _ h, k))
+
+  module _ (r : ℕ) (y : Bool) (f : y ≡ below) where
+    pub row-leaf : r ≡ rowFrom n at next false y → r ≡ rowFrom n at next false below
+    row-leaf q = q ∙ rw f
+
+    pub row-subtree : (x : Bool) → x ≡ root → r ≡ rowFrom n at next x y → r ≡ rowFrom n at next root below
+    row-subtree x e q = q ∙ rw (e, f)
+
+-- ---- and by its sort
+
+module _ (parts symbols n at next : ℕ) (t : RawTree) (r : ℕ) where
+  pub row-of-punct : (p : RawPunct) → t ≡ Punct p → r ≡ rowFrom n at next false (ltb (p .span .index + 2) parts) → r ≡ rowOf parts symbols n at next (rawOf t)
+  unfolding rawOf
+  row-of-punct p e q = q ∙ rw e
+
+  pub row-of-ident : (p : RawIdent) → t ≡ Ident p → r ≡ rowFrom n at next false (ltb (p .span .index + 2) parts && ltb (p .symbol) symbols)
+      → r ≡ rowOf parts symbols n at next (rawOf t)
+  unfolding rawOf
+  row-of-ident p e q = q ∙ rw e
+
+  pub row-of-literal : (p : RawLiteral) → t ≡ Literal p → r ≡ rowFrom n at next false (ltb (p .span .index + 2) parts && ltb (p .symbol) symbols)
+      → r ≡ rowOf parts symbols n at next (rawOf t)
+  unfolding rawOf
+  row-of-literal p e q = q ∙ rw e
+
+  pub row-of-subtree : (p : RawSubtree) → t ≡ Subtree p
+      → r ≡ rowFrom n at next (eqb (p .opening .index + 2) parts && eqb (p .closing .index + 1) parts) (ltb (p .opening .index + 2) parts && ltb (p .closing .index + 2) parts)
+      → r ≡ rowOf parts symbols n at next (rawOf t)
+  unfolding rawOf
+  row-of-subtree p e q = q ∙ rw e
+
+pub ruleset row-cases = (row-form, row-root, row-no-root, row-below, row-outside, row-leaf, row-subtree, row-of-punct, row-of-ident, row-of-literal, row-of-subtree)
+
 -- ---- tree n at a place
 
--- fields out of range are 2 whatever the form
-bad-judged : (T : TableRules) (n at : ℕ) (z : Reply Raw) (k : ℕ) → inRange z ≡ bad k → judge (λ n t. t) T n at z ≡ bad k
-unfolding judge inRange
-bad-judged T n at (bad r) k e = e
-bad-judged T n at (got t next kids) k e = go (fields t) (formed n at next) refl refl
-  where
-    never : {A : Type 0} → got t next kids ≡ bad k → A
-    never q = let z : _≡_ {A = ℕ} 0 1 = cc in absurd (omega arith)
+abbrev shown : {A : Type 0} → (Raw → A) → Reply Raw → Reply A
+shown f (got t m k) = got (f t) m k
+shown f (bad i) = bad i
 
-    go : (x y : Bool) → fields t ≡ x → formed n at next ≡ y → judge (λ n t. t) T n at (got t next kids) ≡ bad k
-    go true y f g = let d : got t next kids ≡ bad k = simp f at e in never d
-    go false true f g = let d : bad 2 ≡ bad k = simp f at e in simp (f, g) d
-    go false false f g = let d : bad 2 ≡ bad k = simp f at e in simp (f, g) d
+module _ {A : Type 0} (show : ℕ → Raw → A) (T : TableRules) (n at : ℕ) where
+  -- fields out of range are 2 whatever the form
+  pub bad-judged : (z : Reply Raw) (k : ℕ) → inRange z ≡ bad k → judge show T n at z ≡ bad k
+  unfolding judge inRange
+  bad-judged (bad r) k e = ap (shown (show n)) e
+  bad-judged (got t next kids) k e = go (fields t) (formed n at next) refl refl
+    where
+      never : {B : Type 0} → got t next kids ≡ bad k → B
+      never q = let z : _≡_ {A = ℕ} 0 1 = cc in absurd (omega arith)
+
+      go : (x y : Bool) → fields t ≡ x → formed n at next ≡ y → judge show T n at (got t next kids) ≡ bad k
+      go true y f g = let d : got t next kids ≡ bad k = simp f at e in never d
+      go false true f g = let d : bad 2 ≡ bad k = simp f at e in simp (f, g) (ap (shown (show n)) d)
+      go false false f g = let d : bad 2 ≡ bad k = simp f at e in simp (f, g) (ap (shown (show n)) d)
+
+  -- a tree that was read is judged by its row
+  module _ (parts symbols : ℕ) (same : (t : Raw) → T .judged n t ≡ rowEight parts symbols n t) (t : Raw) (next kids : ℕ) (f : fields t ≡ true) where
+    pub row-judged : judge show T n at (got t next kids) ≡ unless (rowOf parts symbols n at next t) (got (show n t) next kids)
+    unfolding judge rowFrom
+    row-judged = go (formed n at next) refl
+      where
+        go : (x : Bool) → formed n at next ≡ x → judge show T n at (got t next kids) ≡ unless (rowOf parts symbols n at next t) (got (show n t) next kids)
+        go true d = simp (d, f, same t)
+        go false d = simp d
 
 module _ (b : List ℕ) (parts symbols n at : ℕ) (r : RawRead) (e : r ≡ rawAnswer (inRange (treeAt b at))) where
   pub judged-bad : (k : ℕ) → r ≡ Bad k → r ≡ rawAnswer (judge (λ n t. t) (countRules parts symbols) n at (treeAt b at))
   unfolding rawAnswer
-  judged-bad k q = q ∙ rw (bad-judged (countRules parts symbols) n at (treeAt b at) k (reply-bad (inRange (treeAt b at)) r e k q))
+  judged-bad k q = q ∙ rw (bad-judged (λ n t. t) (countRules parts symbols) n at (treeAt b at) k (reply-bad (inRange (treeAt b at)) r e k q))
 
-  module _ (y : RawAt) (q : r ≡ Got y) (f : Bool) (h : f ≡ formed n at (y .next)) where
-    pub judged-form : not f ≡ true → Bad 2 ≡ rawAnswer (judge (λ n t. t) (countRules parts symbols) n at (treeAt b at))
-    unfolding rawAnswer judge
-    judged-form g =
-        let d : formed n at (y .next) ≡ false = sym h ∙ not-true f g in
-        rw (raw-read b at r e y q) (simp d)
+  module _ (y : RawAt) (q : r ≡ Got y) (row : ℕ) (j : row ≡ rowOf parts symbols n at (y .next) (rawOf (y .tree))) where
+    by-row : judge (λ n t. t) (countRules parts symbols) n at (treeAt b at) ≡ unless row (got (rawOf (y .tree)) (y .next) (y .children .0))
+    by-row =
+        rw (raw-read b at r e y q, j)
+        (row-judged (λ n t. t) (countRules parts symbols) n at parts symbols (λ t. refl) (rawOf (y .tree)) (y .next) (y .children .0) (raw-fits b at r e y q))
 
-    module _ (g : not f ≡ false) (row : ℕ) (j : row ≡ rowEight parts symbols n (rawOf (y .tree))) where
-      pub judged-row : (row ≡ 0 → ⊥) → Bad row ≡ rawAnswer (judge (λ n t. t) (countRules parts symbols) n at (treeAt b at))
-      unfolding rawAnswer judge
-      judged-row l =
-          let d : formed n at (y .next) ≡ true = sym h ∙ not-false f g in
-          let d₂ : fields (rawOf (y .tree)) ≡ true = raw-fits b at r e y q in
-          rw (raw-read b at r e y q) (simp (d, d₂, ← j, ne-eqb _ _ l))
+    pub judged-row : (row ≡ 0 → ⊥) → Bad row ≡ rawAnswer (judge (λ n t. t) (countRules parts symbols) n at (treeAt b at))
+    unfolding rawAnswer
+    judged-row l = rw by-row (simp (ne-eqb _ _ l))
 
-      pub judged-got : row ≡ 0 → Got y ≡ rawAnswer (judge (λ n t. t) (countRules parts symbols) n at (treeAt b at))
-      unfolding judge
-      judged-got l =
-          let d : formed n at (y .next) ≡ true = sym h ∙ not-false f g in
-          let d₂ : fields (rawOf (y .tree)) ≡ true = raw-fits b at r e y q in
-          let d₃ : rowEight parts symbols n (rawOf (y .tree)) ≡ 0 = sym j ∙ l in
-          sym q ∙ e ∙ rw (reply-got (inRange (treeAt b at)) r e y q) (rw (raw-read b at r e y q) (simp (d, d₂, d₃)))
+    pub judged-got : row ≡ 0 → Got y ≡ rawAnswer (judge (λ n t. t) (countRules parts symbols) n at (treeAt b at))
+    judged-got l = sym q ∙ e ∙ rw (reply-got (inRange (treeAt b at)) r e y q) (rw (by-row, l) refl)
 
-pub ruleset judge-cases = (any-form, form-low, form-other, form-root, judged-bad, judged-form, judged-row, judged-got)
+pub ruleset judge-cases = (any-form, form-low, form-other, form-root, judged-bad, judged-row, judged-got)

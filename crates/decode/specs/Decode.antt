@@ -1,10 +1,8 @@
 -- Tree n of a buffer as the source's tree: read, judged, and its indices looked up.
 use Prim.Native.Nat.{ℕ}
-use mathlib.Core.Bool.{Bool, _&&_}
 use mathlib.Core.List.{List}
-use lib.Dec.{ltb}
 use Rattle.format.specs.Reader.{Reply, got, bad}
-use Rattle.format.specs.Tree.{Raw, punct, ident, literal, subtree, treeAt}
+use Rattle.format.specs.Tree.{Raw, treeAt}
 use Rattle.format.specs.Tables.{rules, ownTables}
 use Rattle.format.specs.Buffer.{judge}
 use Rattle.tree.specs.Types.{resolved}
@@ -20,9 +18,6 @@ treeAnswer (bad r) = Refused r
 unfoldable pub decodedAt : List ℕ → List ℕ → List ℕ → ℕ → ℕ → Reply TokenTree
 decodedAt b parts symbols n at = judge (λ m t. resolved parts symbols t) (rules (ownTables parts symbols)) n at (treeAt b at)
 
--- all indices of a tree lie in tables of these sizes
-abbrev pub inTables : ℕ → ℕ → Raw → Bool
-inTables parts symbols (punct s c x) = ltb (s .index) parts
-inTables parts symbols (ident s i r) = ltb (s .index) parts && ltb i symbols
-inTables parts symbols (literal s i k r x) = ltb (s .index) parts && ltb i symbols
-inTables parts symbols (subtree s t n d) = ltb (s .index) parts && ltb (t .index) parts
+-- the same of a tree that was read already
+unfoldable pub shownAs : List ℕ → List ℕ → ℕ → ℕ → ℕ → ℕ → Raw → Reply TokenTree
+shownAs parts symbols n at next kids t = judge (λ m t. resolved parts symbols t) (rules (ownTables parts symbols)) n at (got t next kids)

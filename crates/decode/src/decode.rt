@@ -1,11 +1,15 @@
 // Tree n of a buffer as the source's tree: its indices looked up in the tables.
-use crate::judge::tree_at;
+use crate::judge::punct_row;
+use crate::judge::subtree_row;
+use crate::judge::symbol_row;
+use crate::read::raw_at;
 use pack::span::PackedSpan;
 use tree::kinds::delimiter_from;
 use tree::kinds::is_raw_from;
 use tree::kinds::lit_kind_from;
 use tree::kinds::spacing_from;
 use tree::raw::ChildrenBytes;
+use tree::raw::RawAt;
 use tree::raw::RawIdent;
 use tree::raw::RawLiteral;
 use tree::raw::RawPunct;
@@ -25,9 +29,10 @@ ghost use mathlib.Core.Bool.{true};
 ghost use Prim.Native.Nat.{_+_, _*_, _/_, _<_};
 ghost use lib.ListN.{length, getD};
 ghost use Rattle.pack.specs.Answer.{spanOf};
-ghost use Rattle.tree.specs.Raw.{rawOf};
-ghost use Rattle.tree.specs.Types.{spanWith, punctWith, identWith, literalWith, subtreeWith, resolved};
-ghost use Rattle.decode.specs.Decode.{treeAnswer, decodedAt, inTables};
+ghost use Rattle.tree.specs.Raw.{rawOf, punctRaw, identRaw, literalRaw, subtreeRaw};
+ghost use Rattle.format.specs.Fields.{fields};
+ghost use Rattle.tree.specs.Types.{spanWith, punctWith, identWith, literalWith, subtreeWith};
+ghost use Rattle.decode.specs.Decode.{treeAnswer, decodedAt, shownAs};
 
 pub struct TreeAt {
     pub tree: TokenTree,
@@ -126,15 +131,123 @@ fn subtree_from(parts: &[u32], p: RawSubtree) -> Subtree
     }
 }
 
-fn resolve(parts: &[u32], symbols: &[u32], tree: RawTree) -> TokenTree
-    requires { ⌜ inTables (length (now parts) / 3) (length (now symbols)) (rawOf tree) ≡ true ⌝ }
-    ensures { λ r. ⌜ r ≡ resolved (now (parts .entry)) (now (symbols .entry)) (rawOf tree) ⌝ }
+// ---- a tree that was read, judged and looked up in one place, so that its sort is asked for once
+
+fn punct_found(
+    parts: &[u32],
+    symbols: &[u32],
+    n: u32,
+    at: usize,
+    next: usize,
+    children: ChildrenBytes,
+    p: RawPunct,
+) -> TreeRead
+    requires { ⌜ fields (punctRaw p) ≡ true ⌝ }
+    ensures { λ r. ⌜
+        r ≡ treeAnswer (shownAs (now (parts .entry)) (now (symbols .entry)) n at next (children .0) (punctRaw p))
+        ⌝ }
 {
+    let row = punct_row(parts.len() / 3, n, at, next, p.span.index);
+    if row != 0 {
+        return TreeRead::Refused(row);
+    }
+    TreeRead::Got(TreeAt {
+        tree: TokenTree::Leaf(punct_from(parts, p)),
+        next: next,
+        children: children,
+    })
+}
+
+fn ident_found(
+    parts: &[u32],
+    symbols: &[u32],
+    n: u32,
+    at: usize,
+    next: usize,
+    children: ChildrenBytes,
+    p: RawIdent,
+) -> TreeRead
+    requires { ⌜ fields (identRaw p) ≡ true ⌝ }
+    ensures { λ r. ⌜
+        r ≡ treeAnswer (shownAs (now (parts .entry)) (now (symbols .entry)) n at next (children .0) (identRaw p))
+        ⌝ }
+{
+    let row = symbol_row(parts.len() / 3, symbols.len(), n, at, next, p.span.index, p.symbol);
+    if row != 0 {
+        return TreeRead::Refused(row);
+    }
+    TreeRead::Got(TreeAt {
+        tree: TokenTree::Leaf(ident_from(parts, symbols, p)),
+        next: next,
+        children: children,
+    })
+}
+
+fn literal_found(
+    parts: &[u32],
+    symbols: &[u32],
+    n: u32,
+    at: usize,
+    next: usize,
+    children: ChildrenBytes,
+    p: RawLiteral,
+) -> TreeRead
+    requires { ⌜ fields (literalRaw p) ≡ true ⌝ }
+    ensures { λ r. ⌜
+        r ≡ treeAnswer (shownAs (now (parts .entry)) (now (symbols .entry)) n at next (children .0) (literalRaw p))
+        ⌝ }
+{
+    let row = symbol_row(parts.len() / 3, symbols.len(), n, at, next, p.span.index, p.symbol);
+    if row != 0 {
+        return TreeRead::Refused(row);
+    }
+    TreeRead::Got(TreeAt {
+        tree: TokenTree::Leaf(literal_from(parts, symbols, p)),
+        next: next,
+        children: children,
+    })
+}
+
+fn subtree_found(
+    parts: &[u32],
+    symbols: &[u32],
+    n: u32,
+    at: usize,
+    next: usize,
+    children: ChildrenBytes,
+    p: RawSubtree,
+) -> TreeRead
+    requires { ⌜ fields (subtreeRaw p) ≡ true ⌝ }
+    ensures { λ r. ⌜
+        r ≡ treeAnswer (shownAs (now (parts .entry)) (now (symbols .entry)) n at next (children .0) (subtreeRaw p))
+        ⌝ }
+{
+    let row = subtree_row(parts.len() / 3, n, at, next, p.opening.index, p.closing.index);
+    if row != 0 {
+        return TreeRead::Refused(row);
+    }
+    TreeRead::Got(TreeAt {
+        tree: TokenTree::Subtree(subtree_from(parts, p)),
+        next: next,
+        children: children,
+    })
+}
+
+fn found(parts: &[u32], symbols: &[u32], n: u32, at: usize, here: RawAt) -> TreeRead
+    requires { ⌜ fields (rawOf (here .tree)) ≡ true ⌝ }
+    ensures { λ r. ⌜
+        r ≡ treeAnswer (shownAs (now (parts .entry)) (now (symbols .entry)) n at
+        (here .next) (here .children .0) (rawOf (here .tree)))
+        ⌝ }
+{
+    let tree = here.tree;
+    let next = here.next;
+    let children = here.children;
     match tree {
-        RawTree::Punct(p) => TokenTree::Leaf(punct_from(parts, p)),
-        RawTree::Ident(p) => TokenTree::Leaf(ident_from(parts, symbols, p)),
-        RawTree::Literal(p) => TokenTree::Leaf(literal_from(parts, symbols, p)),
-        RawTree::Subtree(p) => TokenTree::Subtree(subtree_from(parts, p)),
+        RawTree::Punct(p) => punct_found(parts, symbols, n, at, next, children, p),
+        RawTree::Ident(p) => ident_found(parts, symbols, n, at, next, children, p),
+        RawTree::Literal(p) => literal_found(parts, symbols, n, at, next, children, p),
+        RawTree::Subtree(p) => subtree_found(parts, symbols, n, at, next, children, p),
     }
 }
 
@@ -142,17 +255,9 @@ fn resolve(parts: &[u32], symbols: &[u32], tree: RawTree) -> TokenTree
 pub fn decode(b: &[u8], parts: &[u32], symbols: &[u32], n: u32, at: usize) -> TreeRead
     ensures { λ r. ⌜ r ≡ treeAnswer (decodedAt (now (b .entry)) (now (parts .entry)) (now (symbols .entry)) n at) ⌝ }
 {
-    let read = tree_at(b, parts.len() / 3, symbols.len(), n, at);
+    let read = raw_at(b, at);
     match read {
         RawRead::Bad(number) => TreeRead::Refused(number),
-        RawRead::Got(here) => {
-            let tree = here.tree;
-            let children = here.children;
-            TreeRead::Got(TreeAt {
-                tree: resolve(parts, symbols, tree),
-                next: here.next,
-                children: children,
-            })
-        }
+        RawRead::Got(here) => found(parts, symbols, n, at, here),
     }
 }

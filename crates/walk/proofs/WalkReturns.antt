@@ -16,6 +16,7 @@ use Rattle.format.proofs.Each.{and-left, and-right}
 use Rattle.format.proofs.TreeBounds.{Ended, tree-ended}
 use Rattle.format.proofs.Reading.{clean}
 use Rattle.tree.specs.Types.{resolved, treeWordsOf}
+use Rattle.tree.specs.declared.refusal.Refusal.{Refusal}
 use Rattle.tree.specs.declared.types.TokenTree.{TokenTree}
 use Rattle.tree.specs.declared.types.TokenTree.the-variants as trees
 use Rattle.tree.specs.declared.types.Leaf.{Leaf}
@@ -27,12 +28,12 @@ use Rattle.decode.specs.declared.decode.TreeRead.{TreeRead}
 use Rattle.decode.specs.declared.decode.TreeRead.the-variants as reads
 use Rattle.decode.proofs.DecodeUse.{decoded-got, decoded-refused}
 use Rattle.walk.specs.Source.{sizes, treeShape, treeReader}
-use Rattle.walk.specs.Walk.{walkOf, answerOf, stepOf, Stepped, walkRow, Within, ReadAt, Begins, passed, passedOver}
+use Rattle.walk.specs.Walk.{walkOf, answerOf, stepOf, Stepped, walkRow, Within, ReadAt, Begins, passed, passedOver, callOf}
 use Rattle.walk.specs.declared.walk.Walk.{Walk}
 use Rattle.walk.specs.declared.walk.Answer.the-variants.{Tree, None, Refused}
 use Rattle.walk.specs.declared.walk.Step.{Step}
 use Rattle.walk.specs.declared.walk.Begun.{Begun}
-use Rattle.walk.specs.declared.walk.Begun.the-variants.{Stopped, Read}
+use Rattle.walk.specs.declared.walk.Begun.the-variants as begun
 use Rattle.walk.proofs.WalkWords.{inWords, reads-decoded, walk-words}
 
 -- a tree that is read ends in the buffer
@@ -137,14 +138,14 @@ module _ (b parts symbols : List ℕ) (k : ℕ) (w : Walk) (row : ℕ) (e : row 
       let y′ : w .number + w .left ≤ k = leb-true (w .number + w .left) k y in
       omega arith
 
-  pub begin-row : (row ≡ 0 → ⊥) → (s : Step) → stepOf s ≡ (refused row 0, walkOf w) → Begins b k parts symbols w (Stopped s)
+  pub begin-row : (row ≡ 0 → ⊥) → Begins b k parts symbols w (begun.Refused (record { number = row; tree = 0 }))
   unfolding Begins
-  begin-row h s q = λ call. q ∙ row-stops (treeReader b k parts symbols) (walkOf w) row e call h
+  begin-row h = λ call. row-stops (treeReader b k parts symbols) (walkOf w) row e call h
 
   module _ (h₁ : row ≡ 0) where
-    pub begin-none : w .left ≡ 0 → Begins b k parts symbols w (Stopped (record { answer = None; walk = w }))
+    pub begin-none : w .left ≡ 0 → Begins b k parts symbols w begun.None
     unfolding Begins
-    begin-none h = λ call. none-is w ∙ none-left (treeReader b k parts symbols) (walkOf w) row e call h₁ h
+    begin-none h = λ call. none-left (treeReader b k parts symbols) (walkOf w) row e call h₁ h
 
     module _ (h₂ : w .left ≡ 0 → ⊥) (r : TreeRead) (f : r ≡ treeAnswer (decodedAt b parts symbols (w .number) (w .place))) where
       reads-on : (call : WalkCall) (z : Reply TokenTree) → decodedAt b parts symbols (w .number) (w .place) ≡ z
@@ -153,13 +154,13 @@ module _ (b parts symbols : List ℕ) (k : ℕ) (w : Walk) (row : ℕ) (e : row 
           some-left (treeReader b k parts symbols) (walkOf w) row e call h₁ h₂
           ∙ ap (walkRead treeShape (treeReader b k parts symbols) call (walkOf w)) (reads-decoded b k parts symbols (w .number) (w .place) ∙ q)
 
-      pub begin-refused : (i : ℕ) (s : Step) → r ≡ reads.Refused i → stepOf s ≡ (refused i (w .number), walkOf w) → Begins b k parts symbols w (Stopped s)
+      pub begin-refused : (i : ℕ) → r ≡ reads.Refused i → Begins b k parts symbols w (begun.Refused (record { number = i; tree = w .number }))
       unfolding Begins
-      begin-refused i s g q = λ call.
+      begin-refused i g = λ call.
           let d = decoded-refused (decodedAt b parts symbols (w .number) (w .place)) r f i g in
-          q ∙ sym (reads-on call (bad i) d ∙ read-refused (treeReader b k parts symbols) (walkOf w) call i)
+          sym (reads-on call (bad i) d ∙ read-refused (treeReader b k parts symbols) (walkOf w) call i)
 
-      pub begin-got : (y : TreeAt) → r ≡ reads.Got y → Begins b k parts symbols w (Read y)
+      pub begin-got : (y : TreeAt) → r ≡ reads.Got y → Begins b k parts symbols w (begun.Read y)
       unfolding Begins
       begin-got y g =
           let d = decoded-got (decodedAt b parts symbols (w .number) (w .place)) r f y g in
@@ -224,11 +225,15 @@ module _ (b parts symbols : List ℕ) (k : ℕ) (w : Walk) where
   stepped call s q = record { exact = q; words = ap inWords q ∙ walk-words b k parts symbols call (walkOf w) }
 
   module _ (r : Begun) (e : Begins b k parts symbols w r) where
-    pub step-stopped : (call : WalkCall) (s : Step) → r ≡ Stopped s → Stepped b k parts symbols call w s
+    pub step-none : (call : WalkCall) (s : Step) → r ≡ begun.None → stepOf s ≡ (none, walkOf w) → Stepped b k parts symbols call w s
     unfolding Begins
-    step-stopped call s q = stepped call s (subst (Begins b k parts symbols w) q e call)
+    step-none call s q f = stepped call s (f ∙ subst (Begins b k parts symbols w) q e call)
 
-    module _ (y : TreeAt) (q : r ≡ Read y) where
+    pub step-refused : (call : WalkCall) (s : Step) (i : Refusal) → r ≡ begun.Refused i → stepOf s ≡ (refused (i .number) (i .tree), walkOf w) → Stepped b k parts symbols call w s
+    unfolding Begins
+    step-refused call s i q f = stepped call s (f ∙ subst (Begins b k parts symbols w) q e call)
+
+    module _ (y : TreeAt) (q : r ≡ begun.Read y) where
       read-at : ReadAt b k parts symbols w y
       unfolding Begins
       read-at = subst (Begins b k parts symbols w) q e
@@ -245,11 +250,12 @@ module _ (b parts symbols : List ℕ) (k : ℕ) (w : Walk) where
       pub step-left : 1 ≤ w .left
       step-left = let i = step-within .some in omega arith
 
-      pub step-on : (s : Step) → stepOf s ≡ (one (y .tree), record { place = y .next; number = w .number + 1; left = w .left - 1 }) → Stepped b k parts symbols advance w s
-      step-on s f = stepped advance s (f ∙ sym (read-at .step advance))
+      pub step-on : (x : Bool) → x ≡ false → (s : Step) → stepOf s ≡ (one (y .tree), record { place = y .next; number = w .number + 1; left = w .left - 1 })
+          → Stepped b k parts symbols (callOf x) w s
+      step-on x h s f = rw h (stepped advance s (f ∙ sym (read-at .step advance)))
 
-      pub step-past : (s : Step) → stepOf s ≡ passed (length b) (walkOf w) y → Stepped b k parts symbols skip w s
+      pub step-past : (x : Bool) → x ≡ true → (s : Step) → stepOf s ≡ passed (length b) (walkOf w) y → Stepped b k parts symbols (callOf x) w s
       unfolding passed treeReader
-      step-past s f = stepped skip s (f ∙ sym (read-at .step skip))
+      step-past x h s f = rw h (stepped skip s (f ∙ sym (read-at .step skip)))
 
-pub ruleset step-cases = (step-stopped, step-within, step-number, step-left, step-on, step-past)
+pub ruleset step-cases = (step-none, step-refused, step-within, step-number, step-left, step-on, step-past)

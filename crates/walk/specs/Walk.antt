@@ -1,6 +1,6 @@
 -- The answers of walk steps in document 01's numbers and values, and what a step promises.
 use Prim.Native.Nat.{ℕ, _+_, _-_, _<_, _≤_}
-use mathlib.Core.Bool.{true, not}
+use mathlib.Core.Bool.{Bool, true, false, not}
 use mathlib.Core.Path.{_≡_}
 use mathlib.Core.List.{List}
 use lib.Dec.{leb, ltb}
@@ -17,7 +17,7 @@ use Rattle.walk.specs.declared.walk.Answer.{Answer}
 use Rattle.walk.specs.declared.walk.Answer.the-variants.{Tree, None, Refused}
 use Rattle.walk.specs.declared.walk.Step.{Step}
 use Rattle.walk.specs.declared.walk.Begun.{Begun}
-use Rattle.walk.specs.declared.walk.Begun.the-variants.{Stopped, Read}
+use Rattle.walk.specs.declared.walk.Begun.the-variants as begun
 
 -- "A walk is byte place, tree number, trees left."
 abbrev pub walkOf : Walk → steps.Walk
@@ -34,6 +34,10 @@ stepOf s = (answerOf (s .answer), walkOf (s .walk))
 
 abbrev pub stepWords : Step → format.Answer (List ℕ) × steps.Walk
 stepWords s = (answerWords (answerOf (s .answer)), walkOf (s .walk))
+
+abbrev pub callOf : Bool → steps.WalkCall
+callOf true = steps.skip
+callOf false = steps.advance
 
 -- a step: the one tree that the tables give, and by list words what the definitions' reader reads
 pub record Stepped (b : List ℕ) (k : ℕ) (parts symbols : List ℕ) (call : steps.WalkCall) (w : Walk) (r : Step) : Type 0 where
@@ -59,8 +63,9 @@ pub record ReadAt (b : List ℕ) (k : ℕ) (parts symbols : List ℕ) (w : Walk)
 
 -- the step is over, or a tree is read
 unfoldable pub Begins : List ℕ → ℕ → List ℕ → List ℕ → Walk → Begun → Type 0
-Begins b k parts symbols w (Stopped s) = (call : steps.WalkCall) → stepOf s ≡ steps.walkStep treeShape (treeReader b k parts symbols) call (walkOf w)
-Begins b k parts symbols w (Read y) = ReadAt b k parts symbols w y
+Begins b k parts symbols w begun.None = (call : steps.WalkCall) → (format.none, walkOf w) ≡ steps.walkStep treeShape (treeReader b k parts symbols) call (walkOf w)
+Begins b k parts symbols w (begun.Refused r) = (call : steps.WalkCall) → (format.refused (r .number) (r .tree), walkOf w) ≡ steps.walkStep treeShape (treeReader b k parts symbols) call (walkOf w)
+Begins b k parts symbols w (begun.Read y) = ReadAt b k parts symbols w y
 
 -- passing a tree asks no more of a buffer than its length
 unfoldable pub passed : ℕ → steps.Walk → TreeAt → format.Answer TokenTree × steps.Walk

@@ -10,10 +10,10 @@ use tree::types::TokenTree;
 ghost use mathlib.Core.Path.{_≡_};
 ghost use Prim.Native.Nat.{_+_, _-_, _<_, _≤_};
 ghost use lib.ListN.{length};
-ghost use Rattle.format.specs.Reader.{one, refused};
+ghost use Rattle.format.specs.Reader.{none, one, refused};
 ghost use Rattle.format.specs.Walk.{advance, skip};
 ghost use Rattle.walk.specs.Source.{treeReader};
-ghost use Rattle.walk.specs.Walk.{walkOf, stepOf, walkRow, Within, Begins, passed, passedOver, Stepped};
+ghost use Rattle.walk.specs.Walk.{walkOf, stepOf, walkRow, Within, Begins, passed, passedOver, callOf, Stepped};
 
 pub struct Walk {
     pub place: usize,
@@ -57,6 +57,16 @@ fn refuse(number: u32, tree: u32, walk: Walk) -> Step
     }
 }
 
+// None is left.
+fn over(walk: Walk) -> Step
+    ensures { λ r. ⌜ stepOf r ≡ (none, walkOf walk) ⌝ }
+{
+    Step {
+        answer: Answer::None,
+        walk: walk,
+    }
+}
+
 // The walk `trees` trees on.
 fn onward(walk: Walk, tree: TokenTree, trees: u32, next: usize) -> Step
     requires { ⌜ (walk .number + trees < 4294967296) × (trees ≤ walk .left) ⌝ }
@@ -96,9 +106,11 @@ fn walk_row(b: &[u8], trees: u32, parts: &[u32], symbols: &[u32], walk: Walk) ->
     0
 }
 
-// What both steps begin with: the step is over, or a tree is read.
+// What both steps begin with: the step is over, or a tree is read. A whole step in here would hold a tree at another
+// place than the tree that is read, and both would be copied through memory.
 enum Begun {
-    Stopped(Step),
+    None,
+    Refused(Refusal),
     Read(TreeAt),
 }
 
@@ -107,33 +119,21 @@ fn begin(b: &[u8], trees: u32, parts: &[u32], symbols: &[u32], walk: Walk) -> Be
 {
     let row = walk_row(b, trees, parts, symbols, walk);
     if row != 0 {
-        return Begun::Stopped(refuse(row, 0, walk));
+        return Begun::Refused(Refusal {
+            number: row,
+            tree: 0,
+        });
     }
     if walk.left == 0 {
-        let step = Step {
-            answer: Answer::None,
-            walk: walk,
-        };
-        return Begun::Stopped(step);
+        return Begun::None;
     }
     let read = decode(b, parts, symbols, walk.number, walk.place);
     match read {
-        TreeRead::Refused(number) => Begun::Stopped(refuse(number, walk.number, walk)),
+        TreeRead::Refused(number) => Begun::Refused(Refusal {
+            number: number,
+            tree: walk.number,
+        }),
         TreeRead::Got(here) => Begun::Read(here),
-    }
-}
-
-// The next tree.
-pub fn advance(b: &[u8], trees: u32, parts: &[u32], symbols: &[u32], walk: Walk) -> Step
-    ensures { λ r. ⌜ Stepped (now (b .entry)) trees (now (parts .entry)) (now (symbols .entry)) advance walk r ⌝ }
-{
-    let begun = begin(b, trees, parts, symbols, walk);
-    match begun {
-        Begun::Stopped(step) => step,
-        Begun::Read(here) => {
-            let tree = here.tree;
-            onward(walk, tree, 1, here.next)
-        }
     }
 }
 
@@ -166,6 +166,38 @@ fn past(b: &[u8], walk: Walk, here: TreeAt) -> Step
     }
 }
 
+// The next tree; with `skip` past all that it holds.
+pub fn walk_by(
+    b: &[u8],
+    trees: u32,
+    parts: &[u32],
+    symbols: &[u32],
+    walk: Walk,
+    skip: bool,
+) -> Step
+    ensures { λ r. ⌜ Stepped (now (b .entry)) trees (now (parts .entry)) (now (symbols .entry)) (callOf skip) walk r ⌝ }
+{
+    let begun = begin(b, trees, parts, symbols, walk);
+    match begun {
+        Begun::None => over(walk),
+        Begun::Refused(refusal) => refuse(refusal.number, refusal.tree, walk),
+        Begun::Read(here) => {
+            if skip {
+                return past(b, walk, here);
+            }
+            let tree = here.tree;
+            onward(walk, tree, 1, here.next)
+        }
+    }
+}
+
+// The next tree.
+pub fn advance(b: &[u8], trees: u32, parts: &[u32], symbols: &[u32], walk: Walk) -> Step
+    ensures { λ r. ⌜ Stepped (now (b .entry)) trees (now (parts .entry)) (now (symbols .entry)) advance walk r ⌝ }
+{
+    walk_by(b, trees, parts, symbols, walk, false)
+}
+
 // The next tree, and past all that it holds.
 pub fn advance_skip_subtree(
     b: &[u8],
@@ -176,9 +208,5 @@ pub fn advance_skip_subtree(
 ) -> Step
     ensures { λ r. ⌜ Stepped (now (b .entry)) trees (now (parts .entry)) (now (symbols .entry)) skip walk r ⌝ }
 {
-    let begun = begin(b, trees, parts, symbols, walk);
-    match begun {
-        Begun::Stopped(step) => step,
-        Begun::Read(here) => past(b, walk, here),
-    }
+    walk_by(b, trees, parts, symbols, walk, true)
 }

@@ -1,19 +1,19 @@
 use borrow.Author.Needs.{needs}
-use Rattle.decode.proofs.DecodeReturns.{resolve-cases}
+use Rattle.decode.proofs.DecodeReturns.{entry-cases}
 use Rattle.decode.proofs.decode.ident_from.Statement.{statement}
 use Rattle.decode.proofs.decode.ident_from.Tie as tie
 
 symbol-from-requires : tie.Need-symbol-from-requires
-symbol-from-requires c κs = search (needs, resolve-cases)
+symbol-from-requires c κs = search (needs, entry-cases)
 
 span-from-requires : tie.Need-span-from-requires
-span-from-requires c κs = search (needs, resolve-cases)
+span-from-requires c κs = search (needs, entry-cases)
 
 is-raw-from-requires : tie.Need-is-raw-from-requires
-is-raw-from-requires c κs = search (needs, resolve-cases)
+is-raw-from-requires c κs = search (needs, entry-cases)
 
 returns : tie.Need-returns
-returns c = search (needs, resolve-cases)
+returns c = search (needs, entry-cases)
 
 pub ident-from-spec : {M : Type 1} → statement M
 ident-from-spec =

@@ -1,16 +1,16 @@
 use borrow.Author.Needs.{needs}
-use Rattle.decode.proofs.DecodeReturns.{resolve-cases}
+use Rattle.decode.proofs.DecodeReturns.{entry-cases}
 use Rattle.decode.proofs.decode.punct_from.Statement.{statement}
 use Rattle.decode.proofs.decode.punct_from.Tie as tie
 
 spacing-from-requires : tie.Need-spacing-from-requires
-spacing-from-requires c κs = search (needs, resolve-cases)
+spacing-from-requires c κs = search (needs, entry-cases)
 
 span-from-requires : tie.Need-span-from-requires
-span-from-requires c κs = search (needs, resolve-cases)
+span-from-requires c κs = search (needs, entry-cases)
 
 returns : tie.Need-returns
-returns c = search (needs, resolve-cases)
+returns c = search (needs, entry-cases)
 
 pub punct-from-spec : {M : Type 1} → statement M
 punct-from-spec = tie.close (tie.spec spacing-from-requires span-from-requires returns)

@@ -2,44 +2,40 @@ use borrow.Author.Needs.{needs}
 use Rattle.walk.proofs.WalkReturns.{walk-cases}
 use Rattle.walk.proofs.walk.begin.Statement.{statement}
 use Rattle.walk.proofs.walk.begin.Tie as tie
+use Rattle.walk.proofs.walk.begin.Reads as reads
+use Rattle.walk.proofs.walk.begin.Lts as lts
+use Rattle.decode.proofs.decode.decode.Reads as decode-reads
+use Rattle.walk.proofs.walk.walk_row.Reads as walk-row-reads
 
--- src/walk.rt:102:9
+-- src/walk.rt:120:9
 walk-row-requires : tie.Need-walk-row-requires
 walk-row-requires c κs = search (needs, walk-cases)
 
--- src/walk.rt:104:31
-refuse-requires : tie.Need-refuse-requires
-refuse-requires c κs = search (needs, walk-cases)
-
--- src/walk.rt:104:9
+-- src/walk.rt:122:9
 returns : tie.Need-returns
 returns c = search (needs, walk-cases)
 
--- src/walk.rt:111:9
+-- src/walk.rt:128:9
 returns-2 : tie.Need-returns-2
 returns-2 c = search (needs, walk-cases)
 
--- src/walk.rt:113:9
+-- src/walk.rt:130:9
 decode-requires : tie.Need-decode-requires
 decode-requires c κs = search (needs, walk-cases)
 
--- src/walk.rt:115:27
+-- src/walk.rt:132:27
 enum-known-read : tie.Need-enum-known-read
 enum-known-read c = search (needs, walk-cases)
 
--- src/walk.rt:115:53
-refuse-requires-2 : tie.Need-refuse-requires-2
-refuse-requires-2 c κs = search (needs, walk-cases)
-
--- src/walk.rt:116:23
+-- src/walk.rt:136:23
 enum-known-read-2 : tie.Need-enum-known-read-2
 enum-known-read-2 c = search (needs, walk-cases)
 
--- src/walk.rt:99:1
+-- src/walk.rt:117:1
 returns-3 : tie.Need-returns-3
 returns-3 c = search (needs, walk-cases)
 
--- src/walk.rt:99:1
+-- src/walk.rt:117:1
 returns-4 : tie.Need-returns-4
 returns-4 c = search (needs, walk-cases)
 
@@ -48,12 +44,10 @@ begin-spec =
     tie.close
     (tie.spec
     walk-row-requires
-    refuse-requires
     returns
     returns-2
     decode-requires
     enum-known-read
-    refuse-requires-2
     enum-known-read-2
     returns-3
     returns-4)

@@ -1,0 +1,27 @@
+use borrow.Author.Needs.{needs}
+use Rattle.decode.proofs.DecodeReturns.{found-cases}
+use Rattle.decode.proofs.decode.punct_found.Statement.{statement}
+use Rattle.decode.proofs.decode.punct_found.Tie as tie
+use Rattle.decode.proofs.decode.punct_found.Reads as reads
+use Rattle.decode.proofs.decode.punct_found.Lts as lts
+use Rattle.decode.proofs.decode.punct_from.Reads as punct-from-reads
+use Rattle.decode.proofs.judge.punct_row.Reads as punct-row-reads
+
+-- src/decode.rt:150:9
+punct-row-requires : tie.Need-punct-row-requires
+punct-row-requires c κs = search (needs, found-cases)
+
+-- src/decode.rt:152:9
+returns : tie.Need-returns
+returns c = search (needs, found-cases)
+
+-- src/decode.rt:155:31
+punct-from-requires : tie.Need-punct-from-requires
+punct-from-requires c κs = search (needs, found-cases)
+
+-- src/decode.rt:136:1
+returns-2 : tie.Need-returns-2
+returns-2 c = search (needs, found-cases)
+
+pub punct-found-spec : {M : Type 1} → statement M
+punct-found-spec = tie.close (tie.spec punct-row-requires returns punct-from-requires returns-2)
