@@ -1,11 +1,10 @@
 //! Stored buffers: the writer's, loose ones in forms that the writer would not choose, and damaged ones.
-use crate::lists::Maker;
+use crate::maker::{Maker, loose};
 use crate::plain_buffer::Buffer;
 use crate::plain_list;
 use crate::proved::{self, Lent};
 use crate::random::Random;
 use crate::tally::Tally;
-use crate::tree::loose;
 use tt::TopSubtree;
 
 pub struct Stored {

@@ -3,6 +3,7 @@ mod buffers;
 mod cursors;
 mod lists;
 mod machine;
+mod maker;
 mod pack;
 mod plain;
 mod plain_buffer;

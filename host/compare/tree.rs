@@ -1,4 +1,5 @@
 //! One tree: every form at its limits, written and read.
+use crate::maker::loose;
 use crate::pack::held;
 use crate::plain::{self, LAST, Loose, Span, Tree};
 use crate::proved;
@@ -183,18 +184,6 @@ fn reads_alike(t: &Tables, bytes: &[u8], at: usize, n: u32) -> bool {
                 && u64::from(source_children) == children
                 && walk.place() == next - at
         }
-    }
-}
-
-/// Any form that holds a tree.
-pub fn loose(r: &mut Random) -> Loose {
-    Loose {
-        span: r.pick(&[0, 0, 8, 12]),
-        close: r.pick(&[0, 0, 8, 12]),
-        close_extra: r.below(4),
-        symbol: r.pick(&[0, 0, 2, 4]),
-        tag: r.below(2),
-        forms: r.below(3) as usize,
     }
 }
 

@@ -22,6 +22,7 @@ abbrev put-decimal-below : ℕ → In 1 put-decimal-kinds.ps
 put-decimal-below t =
     and 1 put-decimal-kinds.ps (falls 1 put-decimal-kinds.ps _<_ μ-put-decimal t) put-decimal.Pre
 
+-- src/lib.rt:51:9
 put-decimal-digit-requires : (t : ℕ) → put-decimal-lts.Need-digit-requires (
   digit-reads.Asked,
   digit-reads.Learnt,
@@ -32,6 +33,7 @@ put-decimal-digit-requires : (t : ℕ) → put-decimal-lts.Need-digit-requires (
 ) (put-decimal-at t) put-decimal.Post
 put-decimal-digit-requires t c κs = search (needs, decimal-cases)
 
+-- src/lib.rt:53:9
 put-decimal-put-char-requires : (t : ℕ) → put-decimal-lts.Need-put-char-requires (
   digit-reads.Asked,
   digit-reads.Learnt,
@@ -42,6 +44,7 @@ put-decimal-put-char-requires : (t : ℕ) → put-decimal-lts.Need-put-char-requ
 ) (put-decimal-at t) put-decimal.Post
 put-decimal-put-char-requires t c κs = search (needs, decimal-cases)
 
+-- src/lib.rt:53:9
 put-decimal-same-length : (t : ℕ) → put-decimal-lts.Need-same-length (
   digit-reads.Asked,
   digit-reads.Learnt,
@@ -52,6 +55,7 @@ put-decimal-same-length : (t : ℕ) → put-decimal-lts.Need-same-length (
 ) (put-decimal-at t) put-decimal.Post
 put-decimal-same-length t c = search (needs, decimal-cases)
 
+-- src/lib.rt:53:9
 put-decimal-returns : (t : ℕ) → put-decimal-lts.Need-returns (
   digit-reads.Asked,
   digit-reads.Learnt,
@@ -62,6 +66,7 @@ put-decimal-returns : (t : ℕ) → put-decimal-lts.Need-returns (
 ) (put-decimal-at t) put-decimal.Post
 put-decimal-returns t c = search (needs, decimal-cases)
 
+-- src/lib.rt:55:9
 put-decimal-put-decimal-requires : (t : ℕ) → put-decimal-lts.Need-put-decimal-requires (
   digit-reads.Asked,
   digit-reads.Learnt,
@@ -72,6 +77,7 @@ put-decimal-put-decimal-requires : (t : ℕ) → put-decimal-lts.Need-put-decima
 ) (put-decimal-at t) put-decimal.Post
 put-decimal-put-decimal-requires t c κs = search (needs, decimal-cases)
 
+-- src/lib.rt:56:5
 put-decimal-put-char-requires-2 : (t : ℕ) → put-decimal-lts.Need-put-char-requires-2 (
   digit-reads.Asked,
   digit-reads.Learnt,
@@ -82,6 +88,7 @@ put-decimal-put-char-requires-2 : (t : ℕ) → put-decimal-lts.Need-put-char-re
 ) (put-decimal-at t) put-decimal.Post
 put-decimal-put-char-requires-2 t c κs = search (needs, decimal-cases)
 
+-- src/lib.rt:48:1
 put-decimal-same-length-2 : (t : ℕ) → put-decimal-lts.Need-same-length-2 (
   digit-reads.Asked,
   digit-reads.Learnt,
@@ -92,6 +99,7 @@ put-decimal-same-length-2 : (t : ℕ) → put-decimal-lts.Need-same-length-2 (
 ) (put-decimal-at t) put-decimal.Post
 put-decimal-same-length-2 t c = search (needs, decimal-cases)
 
+-- src/lib.rt:48:1
 put-decimal-returns-2 : (t : ℕ) → put-decimal-lts.Need-returns-2 (
   digit-reads.Asked,
   digit-reads.Learnt,

@@ -1,0 +1,27 @@
+//! Writes the source's own answers, which tools/replay holds the proved functions to, to standard output: the same bytes in every run.
+// the modules of the comparison have more than is used here
+#![allow(dead_code)]
+#[path = "../compare/maker.rs"]
+mod maker;
+#[path = "../compare/plain.rs"]
+mod plain;
+#[path = "../compare/plain_list.rs"]
+mod plain_list;
+#[path = "../compare/random.rs"]
+mod random;
+#[path = "../compare/tally.rs"]
+mod tally;
+#[path = "../compare/words.rs"]
+mod words;
+
+mod buffers;
+mod lists;
+mod packing;
+mod text;
+
+fn main() {
+    let mut text = text::Text::default();
+    packing::run(&mut text);
+    lists::run(&mut text);
+    print!("{}", text.ended());
+}

@@ -1,0 +1,310 @@
+/* Replays the stored answers of the unmodified source on the proved functions. Status 0: no difference; 1: one; 2: no stored answers. */
+#include <stdio.h>
+#include <string.h>
+
+#include "stored.h"
+#include "tt_export.h"
+
+enum { TREES = 300, PARTS = 2 * TREES, BYTES = 33 * TREES, NOISE = 0xAA };
+
+/* The list of the last line `list`, with its tables, its bytes, or those of the last line `loose`. */
+static uint32_t list[13 * TREES], parts[3 * PARTS], symbols[TREES];
+static size_t trees, part_count, symbol_count;
+static uint8_t bytes[BYTES];
+static size_t byte_count;
+
+static size_t cases, calls, differences;
+
+/* A case; only the first differences are told. */
+static void held(bool same, const char *what) {
+    cases++;
+    if (!same && ++differences <= 20) {
+        printf("replay: line %zu differs: %s\n", stored_line_number(), what);
+    }
+}
+
+static bool refused(uint64_t reply, uint64_t number) {
+    return reply == TT_REFUSED + (number << 32);
+}
+
+/* ---- spans and symbols */
+
+/* What was packed is what is stored, and nothing behind it has changed. */
+static bool packed(const uint8_t *out, size_t room, uint64_t reply) {
+    uint8_t want[32];
+    memset(want, NOISE, sizeof want);
+    size_t len = stored_bytes(want, room);
+    return reply == len && memcmp(out, want, room) == 0;
+}
+
+static void span(void) {
+    uint32_t w[5];
+    uint8_t out[16];
+    memset(out, NOISE, sizeof out);
+    stored_numbers(w, 5, 5);
+    uint64_t reply = tt_encode_span(out, sizeof out, 0, w[0], w[1], w[2], w[3], w[4] != 0);
+    held(packed(out, sizeof out, reply), "span");
+}
+
+static void unspan(void) {
+    uint8_t from[12];
+    uint32_t w[4], want[4];
+    size_t len = stored_bytes(from, sizeof from);
+    uint64_t reply = tt_decode_span(from, len, 0, w, 4);
+    stored_numbers(want, 4, 4);
+    held(reply == want[3] && memcmp(w, want, 3 * sizeof *w) == 0 && w[3] == from[0] % 4, "span read");
+}
+
+static void symbol(void) {
+    uint8_t out[16];
+    memset(out, NOISE, sizeof out);
+    uint32_t index = stored_number(), tag = stored_number();
+    uint64_t reply = tt_encode_symbol(out, sizeof out, 0, tag, index);
+    held(packed(out, sizeof out, reply), "symbol");
+}
+
+static void unsymbol(void) {
+    uint8_t from[4];
+    uint32_t w[2];
+    size_t len = stored_bytes(from, sizeof from);
+    uint64_t reply = tt_decode_symbol(from, len, 0, w, 2);
+    uint32_t index = stored_number(), used = stored_number();
+    held(reply == used && w[0] == index && w[1] == from[0] % 2, "symbol read");
+}
+
+/* ---- lists */
+
+static void read_list(void) {
+    trees = stored_count(TREES);
+    for (size_t i = 0; i < trees; i++) {
+        stored_tree(list + 13 * i);
+    }
+}
+
+static void read_tables(void) {
+    part_count = stored_count(PARTS);
+    stored_numbers(parts, 3 * part_count, 3 * PARTS);
+    symbol_count = stored_count(TREES);
+    stored_numbers(symbols, symbol_count, TREES);
+}
+
+static bool passes(void) {
+    return tt_check_buffer(bytes, byte_count, (uint32_t)trees, parts, 3 * part_count, symbols, symbol_count) == 0;
+}
+
+static uint32_t work[TREES + 1];
+
+/* The list's bytes over the source's tables are the source's. */
+static void written(void) {
+    static uint8_t out[BYTES + 8], want[BYTES + 8];
+    memset(out, NOISE, sizeof out);
+    memset(want, NOISE, sizeof want);
+    byte_count = stored_bytes(bytes, BYTES);
+    memcpy(want, bytes, byte_count);
+    uint64_t reply =
+        tt_encode_list(list, 13 * trees, parts, 3 * part_count, symbols, symbol_count, work, TREES + 1, out, sizeof out);
+    held(reply == byte_count && memcmp(out, want, sizeof out) == 0 && passes(), "list written");
+}
+
+/* The source leaves the first of its sizes at 0; here it is the total. */
+static void sizes(void) {
+    uint32_t want[TREES];
+    stored_numbers(want, trees, TREES);
+    held(work[0] == byte_count && memcmp(work + 1, want, trees * sizeof *want) == 0, "sizes");
+}
+
+/* Whether an entry of so many words has this count. */
+static bool counted(const uint32_t *entries, const uint32_t *counts, size_t n, size_t words, const uint32_t *entry) {
+    for (size_t i = 0; i < n; i++) {
+        if (memcmp(entries + words * i, entry, words * sizeof *entry) == 0) {
+            return counts[i] == entry[words];
+        }
+    }
+    return false;
+}
+
+/* As many entries as the source has, and each of the source's with its count. */
+static bool all_counted(const uint32_t *entries, const uint32_t *counts, size_t n, size_t words) {
+    size_t due = stored_number();
+    bool same = n == due;
+    for (size_t i = 0; i < due; i++) {
+        uint32_t entry[4];
+        stored_numbers(entry, words + 1, 4);
+        same &= counted(entries, counts, n, words, entry);
+    }
+    return same;
+}
+
+static void counts(void) {
+    static uint32_t own_parts[3 * PARTS], part_counts[PARTS], own_symbols[TREES], symbol_counts[TREES];
+    uint64_t reply =
+        tt_tables(list, 13 * trees, own_parts, 3 * PARTS, part_counts, PARTS, own_symbols, TREES, symbol_counts, TREES);
+    size_t below = (reply >> 32) - 2;
+    bool same = reply < TT_REFUSED && all_counted(own_parts, part_counts, below, 3);
+    same = same && all_counted(own_symbols, symbol_counts, reply & UINT32_MAX, 1);
+    /* the root's two parts stand last, as in the source's table */
+    same = same && memcmp(own_parts + 3 * below, parts + 3 * (part_count - 2), 6 * sizeof *parts) == 0;
+    held(same, "tables");
+}
+
+/* ---- buffers */
+
+static void read_loose(void) {
+    byte_count = stored_bytes(bytes, BYTES);
+    held(passes(), "loose buffer checked");
+}
+
+/* A tree or none, as stored. */
+static bool tree_alike(uint64_t reply, const uint32_t *words) {
+    uint32_t want[13];
+    if (!stored_tree(want)) {
+        return reply == 0;
+    }
+    return reply == 1 && memcmp(words, want, sizeof want) == 0;
+}
+
+static void walk(void) {
+    size_t at[3] = {0, 0, trees};
+    bool same = true;
+    for (; stored_more(); calls++) {
+        uint32_t words[13];
+        bool skip = stored_word()[0] == 's';
+        uint64_t reply = tt_walk(bytes, byte_count, (uint32_t)trees, parts, 3 * part_count, symbols, symbol_count, at[0],
+                                 (uint32_t)at[1], (uint32_t)at[2], skip, at, 3, words, 13);
+        same &= tree_alike(reply, words);
+        same &= at[0] == stored_number() && at[1] + at[2] == trees;
+    }
+    held(same && at[1] > 0, "walk");
+}
+
+static void last(void) {
+    uint32_t from[3], words[5], want[5];
+    stored_numbers(from, 3, 3);
+    uint64_t reply = tt_last_span(bytes, byte_count, (uint32_t)trees, parts, 3 * part_count, symbols, symbol_count, from[0],
+                                  from[1], from[2], words, 5);
+    if (from[2] == 0) {
+        held(stored_word()[0] == '-' && reply == 0, "no last span");
+        return;
+    }
+    stored_numbers(want, 5, 5);
+    held(reply == 1 && memcmp(words, want, sizeof want) == 0, "last span");
+}
+
+/* ---- cursors */
+
+struct cursor {
+    size_t at[3];
+    uint32_t numbers[256], counts[256];
+    size_t places[256];
+};
+
+/* The answer and the state behind it, of a cursor in one of its forms. */
+static uint64_t cursor_call(tt_cursor_call *form, struct cursor *c, uint32_t call, uint32_t *words) {
+    return form(bytes, byte_count, (uint32_t)trees, parts, 3 * part_count, symbols, symbol_count, call, c->at[0],
+                (uint32_t)c->at[1], c->at[2], c->numbers, c->counts, c->places, c->at, 3, words, 26);
+}
+
+/* The source gives up where ours is 10. */
+static bool cursor_alike(uint64_t reply, const uint32_t *words) {
+    uint32_t want[26];
+    switch (stored_word()[0]) {
+    case '!':
+        return refused(reply, 10);
+    case '.':
+        return reply == 3;
+    case '-':
+        return reply == 0;
+    case 't':
+        stored_tree(want);
+        return reply == 1 && memcmp(words, want, 13 * sizeof *want) == 0;
+    default:
+        stored_tree(want);
+        stored_tree(want + 13);
+        return reply == 2 && memcmp(words, want, sizeof want) == 0;
+    }
+}
+
+static void cursor(void) {
+    static struct cursor lent, by_value;
+    memset(&lent, 0, sizeof lent);
+    memset(&by_value, 0, sizeof by_value);
+    bool same = true;
+    for (; stored_more(); calls++) {
+        static const char letters[] = "beotp";
+        const char *letter = strchr(letters, stored_word()[0]);
+        if (letter == NULL) {
+            stored_bad("no such call");
+        }
+        uint32_t words[26] = {0}, others[26] = {0};
+        uint32_t call = (uint32_t)(letter - letters);
+        uint64_t reply = cursor_call(tt_cursor, &lent, call, words);
+        same &= cursor_call(tt_cursor_by_value, &by_value, call, others) == reply;
+        same &= memcmp(words, others, sizeof words) == 0 && memcmp(&lent, &by_value, sizeof lent) == 0;
+        same &= cursor_alike(reply, words);
+        uint32_t state[3];
+        stored_numbers(state, 3, 3);
+        same &= lent.at[1] == state[0] && lent.at[0] == state[1] && lent.at[2] == state[2];
+    }
+    held(same, "cursor");
+}
+
+/* ---- roots */
+
+/* The root's bytes are the stored ones, and behind them nothing has changed. */
+static bool root_alike(const uint8_t *changed) {
+    uint8_t want[33];
+    bool same = stored_bytes(want, sizeof want) == sizeof want && memcmp(changed, want, sizeof want) == 0;
+    return same && memcmp(changed + 33, bytes + 33, byte_count - 33) == 0;
+}
+
+static void kind(void) {
+    static uint8_t changed[BYTES];
+    memcpy(changed, bytes, byte_count);
+    uint64_t reply =
+        tt_set_kind(changed, byte_count, (uint32_t)trees, parts, 3 * part_count, symbols, symbol_count, stored_number());
+    held(reply == 0 && root_alike(changed), "root's kind");
+}
+
+static void spans(void) {
+    static uint8_t changed[BYTES];
+    static uint32_t changed_parts[3 * PARTS];
+    uint32_t words[10], want[6];
+    stored_numbers(words, 10, 10);
+    memcpy(changed, bytes, byte_count);
+    memcpy(changed_parts, parts, sizeof parts);
+    uint64_t reply = tt_set_spans(changed, byte_count, (uint32_t)trees, changed_parts, 3 * part_count, symbols, symbol_count, words);
+    bool same = reply == 0 && root_alike(changed);
+    stored_numbers(want, 6, 6);
+    size_t below = 3 * (part_count - 2);
+    same = same && memcmp(changed_parts + below, want, sizeof want) == 0;
+    held(same && memcmp(changed_parts, parts, below * sizeof *parts) == 0, "root's spans");
+}
+
+static const struct {
+    const char *word;
+    void (*run)(void);
+} sorts[] = {
+    {"span", span},          {"unspan", unspan}, {"symbol", symbol}, {"unsymbol", unsymbol}, {"list", read_list},
+    {"tables", read_tables}, {"bytes", written}, {"sizes", sizes},   {"counts", counts},     {"loose", read_loose},
+    {"walk", walk},          {"last", last},     {"cursor", cursor}, {"kind", kind},         {"spans", spans},
+};
+
+int main(int argc, char **argv) {
+    stored_open(argc > 1 ? argv[1] : "");
+    const char *word;
+    while (strcmp(word = stored_line(), "end") != 0) {
+        size_t i = 0;
+        while (i < sizeof sorts / sizeof *sorts && strcmp(sorts[i].word, word) != 0) {
+            i++;
+        }
+        if (i == sizeof sorts / sizeof *sorts) {
+            stored_bad("no such line");
+        }
+        sorts[i].run();
+        if (stored_more()) {
+            stored_bad("more words than are due");
+        }
+    }
+    printf("replay: %zu cases, %zu walk steps and cursor calls among them, %zu differences\n", cases, calls, differences);
+    return differences != 0;
+}
