@@ -114,10 +114,5 @@ pub fn put_listed(
         put_literal(out, at, literal_at(l, n, open_index, symbol_index));
         return;
     }
-    put_subtree(
-        out,
-        at,
-        subtree_at(l, n, open_index, close_index),
-        children,
-    );
+    put_subtree(out, at, subtree_at(l, n, open_index, close_index), children);
 }

@@ -1,8 +1,8 @@
 // Rows 2 to 4 of a list whose tree count row 1 has passed.
+use tree::plain::fields_at;
 use tree::raw::place;
 use tree::refusal::Refusal;
 use tree::refusal::Verdict;
-use tree::plain::fields_at;
 ghost use mathlib.Core.Path.{_≡_};
 ghost use Prim.Native.Nat.{_+_, _<_, _≤_};
 ghost use lib.ListN.{length, getD};

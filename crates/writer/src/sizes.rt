@@ -1,8 +1,8 @@
 // The work words of a list that rows 1 to 5 pass, from the last to the first.
-use places::resolve::resolve;
-use tree::raw::place;
-use tree::raw::ChildrenBytes;
 use encode::listed::listed_size;
+use places::resolve::resolve;
+use tree::raw::ChildrenBytes;
+use tree::raw::place;
 ghost use mathlib.Core.Path.{_≡_};
 ghost use Prim.Native.Nat.{_+_, _<_, _≤_};
 ghost use lib.ListN.{length};

@@ -232,6 +232,37 @@ fn write_small(
     )
 }
 
+// The same tables, for lists of more than 1,024 trees: of up to 32,768 the indices are found once.
+fn write_middle(
+    l: &[u32],
+    parts: &[u32],
+    symbols: &[u32],
+    work: &mut [u32],
+    out: &mut [u8],
+) -> Report
+    requires { ⌜ Ruled (now parts) (now symbols) (now l) ⌝ }
+    ensures { λ r. ⌜ Written (now (parts .entry)) (now (symbols .entry)) (holdingAll (now (l .entry)))
+        (now (work .entry)) (now (out .entry)) r (now (work .exit)) (now (out .exit)) ⌝ }
+{
+    let mut part_slots = [0u32; 2048];
+    let mut symbol_slots = [0u32; 2048];
+    let mut opens = [0u32; 32768];
+    let mut closes = [0u32; 32768];
+    let mut syms = [0u32; 32768];
+    write_with(
+        l,
+        parts,
+        symbols,
+        work,
+        out,
+        &mut part_slots,
+        &mut symbol_slots,
+        &mut opens,
+        &mut closes,
+        &mut syms,
+    )
+}
+
 // Tables of any size, within 1 MB of stack.
 fn write_large(
     l: &[u32],
@@ -263,28 +294,26 @@ fn write_large(
     )
 }
 
-// Small tables at level 0, else again at level 1. A callee with large arrays is not inlined into a function that calls
-// itself, so that a list with small tables does not pay for the large frame.
-fn write_at(
+// The arrays that the tables and the list need. They share one frame of less than 1 MB.
+fn write_by_size(
     l: &[u32],
     parts: &[u32],
     symbols: &[u32],
     work: &mut [u32],
     out: &mut [u8],
-    level: usize,
 ) -> Report
     requires { ⌜ Ruled (now parts) (now symbols) (now l) ⌝ }
     ensures { λ r. ⌜ Written (now (parts .entry)) (now (symbols .entry)) (holdingAll (now (l .entry)))
         (now (work .entry)) (now (out .entry)) r (now (work .exit)) (now (out .exit)) ⌝ }
 {
-    if level != 0 {
+    if 3072 < parts.len() {
         return write_large(l, parts, symbols, work, out);
     }
-    if 3072 < parts.len() {
-        return write_at(l, parts, symbols, work, out, 1);
-    }
     if 1024 < symbols.len() {
-        return write_at(l, parts, symbols, work, out, 1);
+        return write_large(l, parts, symbols, work, out);
+    }
+    if 13312 < l.len() {
+        return write_middle(l, parts, symbols, work, out);
     }
     write_small(l, parts, symbols, work, out)
 }
@@ -325,7 +354,7 @@ fn write_ruled(
     if !root_present(l, parts) {
         return refuse(5);
     }
-    write_at(l, parts, symbols, work, out, 0)
+    write_by_size(l, parts, symbols, work, out)
 }
 
 // Writes the buffer of a list over given tables. Answers how many bytes, or the first of rows 1 to 6 that the list breaks.

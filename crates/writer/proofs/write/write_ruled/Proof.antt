@@ -5,7 +5,6 @@ use Rattle.writer.proofs.write.write_ruled.Tie as tie
 use Rattle.writer.proofs.write.write_ruled.Reads as reads
 use Rattle.writer.proofs.write.write_ruled.Lts as lts
 use Rattle.writer.proofs.refuse.refuse.Reads as refuse-reads
-use Rattle.writer.proofs.write.write_at.Reads as write-at-reads
 use Rattle.writer.proofs.five.root_present.Reads as root-present-reads
 
 -- src/encode.rt:226:9
@@ -21,8 +20,8 @@ returns : tie.Need-returns
 returns c = search (needs, ruled-cases)
 
 -- src/encode.rt:229:5
-write-at-requires : tie.Need-write-at-requires
-write-at-requires c κs = search (needs, ruled-cases)
+write-by-size-requires : tie.Need-write-by-size-requires
+write-by-size-requires c κs = search (needs, ruled-cases)
 
 -- src/encode.rt:221:1
 same-length : tie.Need-same-length
@@ -43,7 +42,7 @@ write-ruled-spec =
     root-present-requires
     refuse-requires
     returns
-    write-at-requires
+    write-by-size-requires
     same-length
     same-length-2
     returns-2)
