@@ -192,8 +192,18 @@ module _ (parts symbols : List ℕ) (n at next : ℕ) (kids : ChildrenBytes) (ro
     subtree-found l y q = found (subtreeRaw p) f j l (trees.Subtree y) (ap trees.Subtree q)
 
 pub ruleset found-cases = (
-  punct-part, symbol-part, symbol-symbol, open-part,
-  punct-refused, punct-found, ident-refused, ident-found, literal-refused, literal-found, subtree-refused, subtree-found,
+  punct-part,
+  symbol-part,
+  symbol-symbol,
+  open-part,
+  punct-refused,
+  punct-found,
+  ident-refused,
+  ident-found,
+  literal-refused,
+  literal-found,
+  subtree-refused,
+  subtree-found,
 )
 
 -- the close part beside the open one's law is too much for one search

@@ -172,7 +172,15 @@ fn ident_found(
         r ≡ treeAnswer (shownAs (now (parts .entry)) (now (symbols .entry)) n at next (children .0) (identRaw p))
         ⌝ }
 {
-    let row = symbol_row(parts.len() / 3, symbols.len(), n, at, next, p.span.index, p.symbol);
+    let row = symbol_row(
+        parts.len() / 3,
+        symbols.len(),
+        n,
+        at,
+        next,
+        p.span.index,
+        p.symbol,
+    );
     if row != 0 {
         return TreeRead::Refused(row);
     }
@@ -197,7 +205,15 @@ fn literal_found(
         r ≡ treeAnswer (shownAs (now (parts .entry)) (now (symbols .entry)) n at next (children .0) (literalRaw p))
         ⌝ }
 {
-    let row = symbol_row(parts.len() / 3, symbols.len(), n, at, next, p.span.index, p.symbol);
+    let row = symbol_row(
+        parts.len() / 3,
+        symbols.len(),
+        n,
+        at,
+        next,
+        p.span.index,
+        p.symbol,
+    );
     if row != 0 {
         return TreeRead::Refused(row);
     }
@@ -222,7 +238,14 @@ fn subtree_found(
         r ≡ treeAnswer (shownAs (now (parts .entry)) (now (symbols .entry)) n at next (children .0) (subtreeRaw p))
         ⌝ }
 {
-    let row = subtree_row(parts.len() / 3, n, at, next, p.opening.index, p.closing.index);
+    let row = subtree_row(
+        parts.len() / 3,
+        n,
+        at,
+        next,
+        p.opening.index,
+        p.closing.index,
+    );
     if row != 0 {
         return TreeRead::Refused(row);
     }

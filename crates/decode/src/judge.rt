@@ -115,7 +115,15 @@ pub fn punct_row(parts: usize, n: u32, at: usize, next: usize, part: u32) -> u32
 }
 
 // An ident or a literal.
-pub fn symbol_row(parts: usize, symbols: usize, n: u32, at: usize, next: usize, part: u32, symbol: u32) -> u32
+pub fn symbol_row(
+    parts: usize,
+    symbols: usize,
+    n: u32,
+    at: usize,
+    next: usize,
+    part: u32,
+    symbol: u32,
+) -> u32
     ensures { λ r. ⌜ r ≡ rowFrom n at next false (ltb (part + 2) parts && ltb symbol symbols) ⌝ }
 {
     row_from(n, at, next, false, both_in(parts, symbols, part, symbol))

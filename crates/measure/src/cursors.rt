@@ -74,7 +74,16 @@ pub fn lent_sum(b: &[u8], trees: u32, parts: &[u32], symbols: &[u32]) -> u64
             return unseen;
         }
         sum = with_tree(sum, look);
-        let moved = bump_or_end(b, trees, parts, symbols, at, &mut numbers, &mut counts, &mut places);
+        let moved = bump_or_end(
+            b,
+            trees,
+            parts,
+            symbols,
+            at,
+            &mut numbers,
+            &mut counts,
+            &mut places,
+        );
         let answer = moved.answer;
         let stopped = refused_by(answer);
         if stopped != 0 {

@@ -167,14 +167,7 @@ fn past(b: &[u8], walk: Walk, here: TreeAt) -> Step
 }
 
 // The next tree; with `skip` past all that it holds.
-pub fn walk_by(
-    b: &[u8],
-    trees: u32,
-    parts: &[u32],
-    symbols: &[u32],
-    walk: Walk,
-    skip: bool,
-) -> Step
+pub fn walk_by(b: &[u8], trees: u32, parts: &[u32], symbols: &[u32], walk: Walk, skip: bool) -> Step
     ensures { λ r. ⌜ Stepped (now (b .entry)) trees (now (parts .entry)) (now (symbols .entry)) (callOf skip) walk r ⌝ }
 {
     let begun = begin(b, trees, parts, symbols, walk);
