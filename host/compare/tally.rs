@@ -33,11 +33,21 @@ impl Tally {
     }
 }
 
-/// Whether the source gives up. Its panic is an answer here: nothing is printed.
-pub fn panics<T>(f: impl FnOnce() -> T) -> bool {
+/// The source's panics are answers here: nothing is printed while f runs.
+pub fn silent<T>(f: impl FnOnce() -> T) -> T {
     let hook = take_hook();
     set_hook(Box::new(|_| {}));
-    let gave_up = catch_unwind(AssertUnwindSafe(f)).is_err();
+    let result = f();
     set_hook(hook);
-    gave_up
+    result
+}
+
+/// Nothing, if the source gives up.
+pub fn caught<T>(f: impl FnOnce() -> T) -> Option<T> {
+    catch_unwind(AssertUnwindSafe(f)).ok()
+}
+
+/// Whether the source gives up.
+pub fn panics<T>(f: impl FnOnce() -> T) -> bool {
+    silent(|| caught(f).is_none())
 }
