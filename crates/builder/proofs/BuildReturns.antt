@@ -1,21 +1,21 @@
 -- One law for each return of the functions of src/build.rt, with premises as the code's tests and calls give them.
 use Prim.Native.Nat.{ℕ, _+_, _*_, _-_, _/_, _≤_, _<_}
 use mathlib.Core.Bool.{Bool, true, false, not, _&&_}
-use mathlib.Core.Path.{_≡_, refl, sym, ap, _∙_}
-use mathlib.Core.List.{List, [], _∷_}
+use mathlib.Core.Path.{_≡_, refl, sym, ap, _∙_, subst}
+use mathlib.Core.List.{List, [], _∷_, _++_}
 use native.Mathlib.Omega.{arith}
 use borrow.Author.Tests.{le-leb, lt-leb, eq-eqb, ne-eqb, not-true, not-false, eqb-true}
 use lib.Dec.{leb, eqb}
-use lib.ListN.{length, getD, take, drop, length-take, length-drop}
-use lib.Seq.{length-take-le}
+use lib.ListN.{length, getD, take, drop}
+use lib.Seq.{length-take-le, getD-take, take-add, drop-at}
 use Rattle.format.specs.Test.{if_then_else_}
 use Rattle.format.specs.Verdict.{Verdict, passed, refused, rule}
-use Rattle.format.specs.Word.{put}
 use Rattle.format.specs.WordList.{wordOf, listCount}
-use Rattle.format.specs.Writer.{writerReport, workAfter, outAfter}
+use Rattle.format.specs.Holding.{holdingAll}
 use Rattle.format.specs.Builder.{subAt, disagrees, ready, oneInside, buildList, innerList, skipList, written, ifReady, build, buildSkipTopSubtree}
 use Rattle.format.specs.Builder as format
 use Rattle.format.proofs.Each.{and-left, and-right, rule-passed}
+use Rattle.format.proofs.Holding.{build-holds}
 use Rattle.format.proofs.BuilderRestore.{Agrees, agrees-is}
 use Rattle.tree.specs.Refusal.{verdictAnswer, reportAnswer}
 use Rattle.tree.specs.declared.refusal.Refusal.{Refusal}
@@ -23,8 +23,9 @@ use Rattle.tree.specs.declared.refusal.Verdict.{Verdict as Answer}
 use Rattle.tree.specs.declared.refusal.Verdict.the-variants.{Passed, Refused}
 use Rattle.tree.specs.declared.refusal.Report.{Report}
 use Rattle.tree.specs.declared.refusal.Report.the-variants as reports
+use Rattle.writer.specs.Written.{Written}
 use Rattle.builder.specs.declared.state.Builder.{Builder}
-use Rattle.builder.specs.State.{numbers, stateOf, seen, held}
+use Rattle.builder.specs.State.{numbers, stateOf, seen}
 use Rattle.builder.specs.Building.{Made, Built, BuiltSkipping}
 use Rattle.builder.proofs.Answers.{answer-passed, answer-refused}
 use Rattle.builder.proofs.Numbers.{numbers-length}
@@ -100,41 +101,71 @@ module _ (b : Builder) (l parts symbols work out : List ℕ) (v : Answer) (e : v
     agree : Agrees l (seen b)
     agree = agrees-is l (seen b) (not-true (disagrees l (seen b)) (and-left (not (disagrees l (seen b))) (eqb (length (numbers (b .opened) (b .depth))) 0) (rule-passed _ 10 0 yes)))
 
-    pub ready-some : 1 ≤ b .count
-    ready-some = agree .some
-
     pub ready-inside : b .count ≤ listCount l
     ready-inside = agree .inRun
 
-    module _ (r : Report) (work′ out′ : List ℕ) where
-      -- what the writer makes of a list
-      made : (m : List ℕ) (w : format.Built) → w ≡ written parts symbols work out m → r ≡ reportAnswer (writerReport parts symbols m work out)
-          → work′ ≡ workAfter parts symbols m work out → out′ ≡ outAfter parts symbols m work out → Made w r work′ out′
-      made m w f i j k = rw f (record { answer = i; works = j; outs = k })
+    pub ready-root : getD l 0 0 ≡ 3
+    ready-root = eqb-true (getD l 0 0) 3 (agree .rooted)
 
-      pub build-made : r ≡ reportAnswer (writerReport parts symbols (buildList l (seen b)) work out) → work′ ≡ workAfter parts symbols (buildList l (seen b)) work out
-          → out′ ≡ outAfter parts symbols (buildList l (seen b)) work out → Built b l parts symbols work out r work′ out′
-      build-made i j k = let n = yes in made (buildList l (seen b)) (build parts symbols work out l (seen b)) (rw n) i j k
+    module _ (m : ℕ) (c : m ≡ b .count) where
+      pub ready-end : 13 ≤ 13 * m
+      ready-end = let a = agree .some in omega arith
 
-      module _ (y : Bool) (f : y ≡ oneInside l (stateOf (b .count) 0 [])) where
-        pub skip-inner : y ≡ true → r ≡ reportAnswer (writerReport parts symbols (innerList l (seen b)) work out) → work′ ≡ workAfter parts symbols (innerList l (seen b)) work out
-            → out′ ≡ outAfter parts symbols (innerList l (seen b)) work out → BuiltSkipping b l parts symbols work out r work′ out′
-        skip-inner g i j k =
-            let n = yes in
-            let q : oneInside l (seen b) ≡ true = sym f ∙ g in
-            made (innerList l (seen b)) (buildSkipTopSubtree parts symbols work out l (seen b)) (simp (n, q)) i j k
+      pub ready-room : 13 * m ≤ length l
+      ready-room = let a = agree .inRun in omega arith
 
-        pub skip-whole : y ≡ false → r ≡ reportAnswer (writerReport parts symbols (buildList l (seen b)) work out) → work′ ≡ workAfter parts symbols (buildList l (seen b)) work out
-            → out′ ≡ outAfter parts symbols (buildList l (seen b)) work out → BuiltSkipping b l parts symbols work out r work′ out′
-        skip-whole g i j k =
-            let n = yes in
-            let q : oneInside l (seen b) ≡ false = sym f ∙ g in
-            made (buildList l (seen b)) (buildSkipTopSubtree parts symbols work out l (seen b)) (simp (n, q)) i j k
+      module _ (r : Report) (work′ out′ : List ℕ) where
+        -- what the writer makes of a list
+        made : (q : List ℕ) (w : format.Built) → w ≡ written parts symbols work out q → Written parts symbols q work out r work′ out′ → Made w r work′ out′
+        made q w f h = rw f (record { answer = h .answer; works = h .works; outs = h .outs })
 
--- the list that the writer is to take, its root holding all others, is the definitions'
-pub build-list : (l : List ℕ) (b : format.Builder) → 1 ≤ b .count → b .count ≤ listCount l → held (take (13 * b .count) l) ≡ buildList l b
-unfolding buildList held
-build-list l b h k =
-    let e : length (take (13 * b .count) l) ≡ 13 * b .count = length-take-le (13 * b .count) l (omega arith) in
-    let c : listCount (take (13 * b .count) l) ≡ b .count = rw e (omega arith) in
-    rw c
+        whole-is : holdingAll (take (13 * m) l) ≡ buildList l (seen b)
+        whole-is = ap (λ (i : ℕ). holdingAll (take (13 * i) l)) c ∙ build-holds l (seen b) (agree .some) (agree .inRun)
+
+        of-whole : Written parts symbols (holdingAll (take (13 * m) l)) work out r work′ out′ → Written parts symbols (buildList l (seen b)) work out r work′ out′
+        of-whole h = subst (λ (q : List ℕ). Written parts symbols q work out r work′ out′) whole-is h
+
+        pub build-made : Written parts symbols (holdingAll (take (13 * m) l)) work out r work′ out′ → Built b l parts symbols work out r work′ out′
+        build-made h = let n = yes in made (buildList l (seen b)) (build parts symbols work out l (seen b)) (rw n) (of-whole h)
+
+        module _ (y : Bool) (f : y ≡ oneInside l (stateOf (b .count) 0 [])) where
+          pub skip-inner : y ≡ true → Written parts symbols (drop 13 (take (13 * m) l)) work out r work′ out′ → BuiltSkipping b l parts symbols work out r work′ out′
+          unfolding innerList
+          skip-inner g h =
+              let n = yes in
+              let q : oneInside l (seen b) ≡ true = sym f ∙ g in
+              made (innerList l (seen b)) (buildSkipTopSubtree parts symbols work out l (seen b)) (simp (n, q))
+              (subst (λ (i : ℕ). Written parts symbols (drop 13 (take (13 * i) l)) work out r work′ out′) c h)
+
+          pub skip-whole : y ≡ false → Written parts symbols (holdingAll (take (13 * m) l)) work out r work′ out′ → BuiltSkipping b l parts symbols work out r work′ out′
+          skip-whole g h =
+              let n = yes in
+              let q : oneInside l (seen b) ≡ false = sym f ∙ g in
+              made (buildList l (seen b)) (buildSkipTopSubtree parts symbols work out l (seen b)) (simp (n, q)) (of-whole h)
+
+pub ruleset build-cases = (build-refused, skip-refused, ready-inside, ready-root, ready-end, ready-room, build-made, skip-inner, skip-whole)
+
+-- ---- the writer over a part of the run
+
+module _ (l : List ℕ) (end : ℕ) (h : 13 ≤ end) (k : end ≤ length l) where
+  pub front-some : 1 ≤ listCount (take end l)
+  front-some = let e = length-take-le end l k in omega arith
+
+  pub front-root : getD l 0 0 ≡ 3 → getD (take end l) 0 0 ≡ 3
+  front-root r = getD-take end l 0 0 (omega arith) ∙ r
+
+  pub front-length : end ≡ length (take end l)
+  front-length = sym (length-take-le end l k)
+
+  -- a part without the first tree is the front without it
+  part-is : take (end - 13) (drop 13 l) ≡ drop 13 (take end l)
+  part-is =
+      let e : 13 + (end - 13) ≡ end = omega arith in
+      let f : take end l ≡ take 13 l ++ take (end - 13) (drop 13 l) = rw e at (take-add 13 (end - 13) l) in
+      sym (ap (drop 13) f ∙ drop-at (take 13 l) (take (end - 13) (drop 13 l)) 13 (length-take-le 13 l (omega arith)))
+
+  pub inner-written : (p s work out : List ℕ) (r : Report) (work′ out′ : List ℕ) → Written p s (take (end - 13) (drop 13 l)) work out r work′ out′
+      → Written p s (drop 13 (take end l)) work out r work′ out′
+  inner-written p s work out r work′ out′ h = subst (λ (q : List ℕ). Written p s q work out r work′ out′) part-is h
+
+pub ruleset front-cases = (front-some, front-root, front-length, inner-written)

@@ -1,9 +1,8 @@
 -- The crate's builder as the definitions' builder.
-use Prim.Native.Nat.{ℕ, zero, suc, _+_, _*_, _-_}
+use Prim.Native.Nat.{ℕ, zero, suc, _+_, _*_}
 use mathlib.Core.List.{List, [], _∷_}
 use lib.ListN.{getD}
 use Rattle.format.specs.Word.{put}
-use Rattle.format.specs.WordList.{listCount}
 use Rattle.format.specs.Root.{WordSpan, fiveWords}
 use Rattle.format.specs.Builder as format
 use Rattle.builder.specs.declared.state.Builder.{Builder}
@@ -22,7 +21,3 @@ seen b = stateOf (b .count) (b .depth) (b .opened)
 -- tree m with n descendants and a close span
 abbrev pub closedAt : List ℕ → ℕ → ℕ → WordSpan → List ℕ
 closedAt l m n s = put (put l (13 * m + 1) (n ∷ [])) (13 * m + 8) (fiveWords s)
-
--- a list with "the root taken to hold all others"
-unfoldable pub held : List ℕ → List ℕ
-held l = put l 1 ((listCount l - 1) ∷ [])

@@ -1,15 +1,24 @@
-// What building asks of a builder: none open, and whether the top subtree is to be skipped.
+// `build` and `build_skip_top_subtree`: none may be open; then the writer over the trees made so far.
+use crate::state::Builder;
 use crate::state::disagrees;
-use crate::state::is_subtree;
+use crate::sort::is_subtree;
 use crate::steps::refused;
+use tree::raw::place;
+use tree::refusal::Report;
 use tree::refusal::Verdict;
+use writer::write::encode_holding;
+use writer::write::encode_list;
 ghost use mathlib.Core.Path.{_≡_};
 ghost use mathlib.Core.List.{[]};
 ghost use Prim.Native.Nat.{_≤_};
+ghost use lib.ListN.{length, getD, take, drop};
+ghost use Rattle.format.specs.Holding.{holdingAll};
 ghost use Rattle.format.specs.WordList.{listCount};
 ghost use Rattle.format.specs.Builder.{ready, oneInside};
 ghost use Rattle.tree.specs.Refusal.{verdictAnswer};
+ghost use Rattle.writer.specs.Written.{Written};
 ghost use Rattle.builder.specs.State.{stateOf};
+ghost use Rattle.builder.specs.Building.{Built, BuiltSkipping};
 
 fn ready_verdict(list: &[u32], count: u32, depth: usize, opened: &[u32; 256]) -> Verdict
     ensures { λ r. ⌜ r ≡ verdictAnswer
@@ -39,4 +48,85 @@ fn one_inside(list: &[u32], count: u32) -> bool
         return false;
     }
     true
+}
+
+// The writer over the words before `end`, whose root is taken to hold all others.
+fn write_holding(
+    list: &[u32],
+    end: usize,
+    parts: &[u32],
+    symbols: &[u32],
+    work: &mut [u32],
+    out: &mut [u8],
+) -> Report
+    requires { ⌜ (13 ≤ end) × (end ≤ length (now list)) × (getD (now list) 0 0 ≡ 3) ⌝ }
+    ensures { λ r. ⌜ Written (now (parts .entry)) (now (symbols .entry)) (holdingAll (take end (now (list .entry))))
+        (now (work .entry)) (now (out .entry)) r (now (work .exit)) (now (out .exit)) ⌝ }
+{
+    encode_holding(&list[..end], parts, symbols, work, out)
+}
+
+// The writer over the words before `end`, without those of the root.
+fn write_inner(
+    list: &[u32],
+    end: usize,
+    parts: &[u32],
+    symbols: &[u32],
+    work: &mut [u32],
+    out: &mut [u8],
+) -> Report
+    requires { ⌜ (13 ≤ end) × (end ≤ length (now list)) ⌝ }
+    ensures { λ r. ⌜ Written (now (parts .entry)) (now (symbols .entry)) (drop 13 (take end (now (list .entry))))
+        (now (work .entry)) (now (out .entry)) r (now (work .exit)) (now (out .exit)) ⌝ }
+{
+    encode_list(&list[13..end], parts, symbols, work, out)
+}
+
+impl Builder {
+    // The root is taken to hold all others, whatever count it has stored.
+    pub fn build(
+        self,
+        list: &[u32],
+        parts: &[u32],
+        symbols: &[u32],
+        work: &mut [u32],
+        out: &mut [u8],
+    ) -> Report
+        ensures { λ r. ⌜ Built self (now (list .entry)) (now (parts .entry)) (now (symbols .entry))
+            (now (work .entry)) (now (out .entry)) r (now (work .exit)) (now (out .exit)) ⌝ }
+    {
+        let verdict = ready_verdict(list, self.count, self.depth, &self.opened);
+        match verdict {
+            Verdict::Refused(at) => Report::Refused(at),
+            Verdict::Passed => {
+                let end = 13 * place(self.count);
+                write_holding(list, end, parts, symbols, work, out)
+            }
+        }
+    }
+
+    // Without the root where one subtree holds all others.
+    pub fn build_skip_top_subtree(
+        self,
+        list: &[u32],
+        parts: &[u32],
+        symbols: &[u32],
+        work: &mut [u32],
+        out: &mut [u8],
+    ) -> Report
+        ensures { λ r. ⌜ BuiltSkipping self (now (list .entry)) (now (parts .entry)) (now (symbols .entry))
+            (now (work .entry)) (now (out .entry)) r (now (work .exit)) (now (out .exit)) ⌝ }
+    {
+        let verdict = ready_verdict(list, self.count, self.depth, &self.opened);
+        match verdict {
+            Verdict::Refused(at) => Report::Refused(at),
+            Verdict::Passed => {
+                let end = 13 * place(self.count);
+                if one_inside(list, self.count) {
+                    return write_inner(list, end, parts, symbols, work, out);
+                }
+                write_holding(list, end, parts, symbols, work, out)
+            }
+        }
+    }
 }

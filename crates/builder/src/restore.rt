@@ -3,7 +3,7 @@ use crate::state::Builder;
 use crate::state::Point;
 use crate::state::Stepped;
 use crate::state::disagrees;
-use crate::state::is_subtree;
+use crate::sort::is_subtree;
 use crate::steps::refused;
 use tree::raw::place;
 use tree::refusal::Refusal;

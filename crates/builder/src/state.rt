@@ -1,4 +1,5 @@
 // A builder, its restore points, and whether a builder agrees with the run that it is lent.
+use crate::sort::is_subtree;
 use tree::raw::place;
 use tree::refusal::Verdict;
 ghost use mathlib.Core.Path.{_≡_};
@@ -28,17 +29,6 @@ pub struct Point {
 pub struct Stepped {
     pub verdict: Verdict,
     pub builder: Builder,
-}
-
-// Whether tree n of the run is a subtree.
-pub fn is_subtree(list: &[u32], n: usize) -> bool
-    requires { ⌜ n < listCount (now list) ⌝ }
-    ensures { λ r. ⌜ r ≡ subAt (now (list .entry)) n ⌝ }
-{
-    if list[13 * n] != 3 {
-        return false;
-    }
-    true
 }
 
 // Whether m can be an open tree under one of number `top`.

@@ -115,7 +115,7 @@ module _ (l : List ℕ) (some : 1 ≤ listCount l) where
         rw (e₀, root) (rw (e₂, e₆, e₇, e₁₁, e₁₂))
     holding-fields (suc n) = ap wordFields (holding-words (suc n) (omega arith))
 
-    holding-two : each (rowTwo (holdingAll l)) (listCount (holdingAll l)) ≡ each (rowTwo l) (listCount l)
+    pub holding-two : each (rowTwo (holdingAll l)) (listCount (holdingAll l)) ≡ each (rowTwo l) (listCount l)
     holding-two = λ i. each (λ m. rule (holding-fields m i) 2 m) (holding-count i)
 
     -- below the root, under any ends
@@ -146,7 +146,7 @@ module _ (l : List ℕ) (some : 1 ≤ listCount l) where
         let y = le-ltb (listCount (holdingAll l)) (endOf wordShape (given (holdingAll l)) 0) (omega arith) in
         simp (s, y) (ap (λ m. nestFrom wordShape (given (holdingAll l)) j 1 (m ∷ [])) e)
 
-    holding-nest : nest wordShape (given (holdingAll l)) ≡ nestFrom wordShape (given l) (listCount l - 1) 1 (listCount l ∷ [])
+    pub holding-nest : nest wordShape (given (holdingAll l)) ≡ nestFrom wordShape (given l) (listCount l - 1) 1 (listCount l ∷ [])
     holding-nest =
         let s = root-sub in
         let e = root-end in

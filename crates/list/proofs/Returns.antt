@@ -5,21 +5,24 @@ use mathlib.Core.Path.{_≡_, refl, sym, ap, _∙_}
 use mathlib.Core.List.{List, [], _∷_}
 use native.Mathlib.Omega.{arith}
 use native.Mathlib.Nat.{add-zero}
-use borrow.Author.Tests.{le-leb, lt-leb, eq-eqb, ne-eqb, leb-true, not-true, not-false}
+use borrow.Author.Tests.{le-leb, lt-leb, eq-eqb, ne-eqb, eqb-true, leb-true, not-true, not-false}
 use lib.Dec.{leb, eqb}
 use lib.ListN.{length, getD, set}
 use Rattle.format.specs.Test.{if_then_else_}
 use Rattle.format.specs.Verdict as format
 use Rattle.format.specs.Verdict.{passed, refused, _andThen_, eachFrom}
-use Rattle.format.specs.Nest.{stillOpen, innermost}
-use Rattle.format.specs.WordList.{wordOf, wordFields, listCount, listSized, listRules, listRows}
-use Rattle.format.proofs.Each.{and₃}
+use Rattle.format.specs.Nest.{stillOpen, innermost, nest}
+use Rattle.format.specs.Buffer.{wordShape}
+use Rattle.format.specs.Holding.{holdingAll}
+use Rattle.format.specs.WordList.{wordOf, wordFields, listCount, given, listSized, listRules, listRows}
+use Rattle.format.proofs.Each.{and₃, and-left, and-right}
+use Rattle.format.proofs.Holding.{holding-same, holding-two, holding-nest}
 use Rattle.format.proofs.NestLaw.{still-above, still-below}
 use Rattle.tree.specs.Refusal.{verdictAnswer}
 use Rattle.tree.specs.declared.refusal.Refusal.{Refusal}
 use Rattle.tree.specs.declared.refusal.Verdict.{Verdict}
 use Rattle.tree.specs.declared.refusal.Verdict.the-variants.{Passed, Refused}
-use Rattle.list.specs.Pass.{fieldsFrom, isSub, nextSub, isRooted, passFrom, nestRow, openEnds}
+use Rattle.list.specs.Pass.{fieldsFrom, isSub, nextSub, isRooted, passFrom, nestBelow, nestRow, openEnds}
 use Rattle.list.proofs.PassLaw.{length-open, open-more, open-suc, pass-three, pass-four, pass-sub, pass-end, pass-next, next-sub, next-most, next-least, next-past, next-here, next-end}
 
 -- ---- answers
@@ -141,11 +144,11 @@ pub ruleset root-cases = (root-sort, root-part, root-whole)
 
 -- the pass has come to tree n, a subtree or the end, with these ends open
 pub record Passing (l : List ℕ) (n depth : ℕ) (ends : List ℕ) : Type 0 where
-  same : passFrom l 0 [] ≡ passFrom l n (openEnds depth ends)
+  same : nestBelow l ≡ passFrom l n (openEnds depth ends)
   here : n < listCount l → isSub l n ≡ true
 
-pub first-most : (l : List ℕ) (m : ℕ) → m ≡ nextSub l 0 → m ≤ listCount l
-first-most l m e = let a = next-most l 0 (omega arith) in omega arith
+pub first-most : (l : List ℕ) (m : ℕ) → m ≡ nextSub l 1 → 1 ≤ listCount l → m ≤ listCount l
+first-most l m e h = let a = next-most l 1 h in omega arith
 
 pub most-next : (l : List ℕ) (n m : ℕ) → m ≡ nextSub l (n + 1) → n < listCount l → m ≤ listCount l
 most-next l n m e h = let a = next-most l (n + 1) (omega arith) in omega arith
@@ -153,16 +156,16 @@ most-next l n m e h = let a = next-most l (n + 1) (omega arith) in omega arith
 pub next-less : (l : List ℕ) (n m : ℕ) → m ≡ nextSub l (n + 1) → n < listCount l → listCount l - m < listCount l - n
 next-less l n m e h = let a = next-least l (n + 1) in omega arith
 
-pub pass-starts : (l ends : List ℕ) (n : ℕ) → n ≡ nextSub l 0 → Passing l n 0 ends
-unfolding openEnds
-pass-starts l ends n e =
+pub pass-starts : (l ends : List ℕ) (n : ℕ) → n ≡ nextSub l 1 → 1 ≤ listCount l → getD ends 0 0 ≡ listCount l → Passing l n 1 ends
+unfolding nestBelow openEnds
+pass-starts l ends n e h f =
     record {
-      same = pass-next l 0 [] (omega arith) ∙ rw e;
-      here = λ h. rw e (next-sub l 0 (omega arith) (rw e at h));
+      same = pass-next l 1 (listCount l ∷ []) h ∙ rw (e, f);
+      here = λ k. rw e (next-sub l 1 h (rw e at k));
     }
 
 module _ (l ends : List ℕ) (n depth : ℕ) (p : Passing l n depth ends) where
-  pub pass-ends : listCount l ≤ n → Passed ≡ verdictAnswer (passFrom l 0 [])
+  pub pass-ends : listCount l ≤ n → Passed ≡ verdictAnswer (nestBelow l)
   pass-ends h = passed-answer ∙ ap verdictAnswer (sym (p .same ∙ pass-end l n (openEnds depth ends) h))
 
   module _ (h : n < listCount l) (d : ℕ) (o : openEnds d ends ≡ stillOpen n (openEnds depth ends)) (a : ℕ) (f : a ≡ innermost (listCount l) (openEnds d ends))
@@ -173,13 +176,13 @@ module _ (l ends : List ℕ) (n depth : ℕ) (p : Passing l n depth ends) where
     deep : length (stillOpen n (openEnds depth ends)) ≡ d
     deep = ap length (sym o) ∙ length-open d ends
 
-    pub passes-end : a < e → (v : Verdict) → v ≡ verdictAnswer (refused 3 n) → v ≡ verdictAnswer (passFrom l 0 [])
+    pub passes-end : a < e → (v : Verdict) → v ≡ verdictAnswer (refused 3 n) → v ≡ verdictAnswer (nestBelow l)
     passes-end k v q =
         let u = around in
         q ∙ ap verdictAnswer (sym (p .same ∙ pass-three l n (openEnds depth ends) h (p .here h) (omega arith)))
 
     module _ (k : e ≤ a) where
-      pub too-deep : 256 ≤ d → (v : Verdict) → v ≡ verdictAnswer (refused 4 n) → v ≡ verdictAnswer (passFrom l 0 [])
+      pub too-deep : 256 ≤ d → (v : Verdict) → v ≡ verdictAnswer (refused 4 n) → v ≡ verdictAnswer (nestBelow l)
       too-deep i v q =
           let u = around in
           let w = deep in
@@ -200,17 +203,27 @@ pub ruleset pass-cases = (first-most, most-next, next-less, pass-starts, pass-en
 
 -- ---- the rows in turn
 
+module _ (l : List ℕ) (some : 1 ≤ listCount l) where
+  held-row : getD l 0 0 ≡ 3 → nestRow (holdingAll l) ≡ nestBelow l
+  unfolding nestRow nestBelow passFrom
+  held-row r = holding-nest l some r
+
+  -- a root that holds all others needs no taking
+  rooted-row : isRooted l ≡ true → nestRow l ≡ nestBelow l
+  unfolding isRooted
+  rooted-row h =
+      let a = eqb-true (getD l 0 0) 3 (and-left (eqb (getD l 0 0) 3) (eqb (0 + 1 + wordOf l 0 1) (listCount l)) h) in
+      let c = eqb-true (0 + 1 + wordOf l 0 1) (listCount l) (and-right (eqb (getD l 0 0) 3) (eqb (0 + 1 + wordOf l 0 1) (listCount l)) h) in
+      let e : getD l 1 0 ≡ listCount l - 1 = omega arith in
+      ap nestRow (sym (holding-same l some e)) ∙ held-row a
+
 module _ (l : List ℕ) (b : Bool) (e : b ≡ isRooted l) where
   pub not-rooted : not b ≡ true → (v : Verdict) → v ≡ verdictAnswer (refused 3 0) → v ≡ verdictAnswer (nestRow l)
   unfolding nestRow isRooted
   not-rooted k v q = let a = sym e ∙ not-true b k in q ∙ simp a
 
-  pub rooted-pass : not b ≡ false → (v : Verdict) → v ≡ verdictAnswer (passFrom l 0 []) → v ≡ verdictAnswer (nestRow l)
-  unfolding nestRow isRooted passFrom
-  rooted-pass k v q =
-      let a = sym e ∙ not-false b k in
-      let z : listCount l - 0 ≡ listCount l = omega arith in
-      q ∙ simp (a, z)
+  pub rooted-pass : not b ≡ false → 1 ≤ listCount l → (v : Verdict) → v ≡ verdictAnswer (nestBelow l) → v ≡ verdictAnswer (nestRow l)
+  rooted-pass k h v q = q ∙ ap verdictAnswer (sym (rooted-row l h (sym e ∙ not-false b k)))
 
 pub ruleset nest-cases = (not-rooted, rooted-pass)
 
@@ -226,6 +239,23 @@ module _ (l : List ℕ) (r : Verdict) (e : r ≡ verdictAnswer (fieldsFrom l 0))
   rules-nest k v q = q ∙ sym (answer-passed (fieldsFrom l 0) (nestRow l) (sym e ∙ k)) ∙ whole
 
 pub ruleset rules-cases = (rules-two, rules-nest)
+
+-- … of a list whose root is taken to hold all others
+module _ (l : List ℕ) (some : 1 ≤ listCount l) (root : getD l 0 0 ≡ 3) (r : Verdict) (e : r ≡ verdictAnswer (fieldsFrom l 0)) where
+  held-whole : verdictAnswer (fieldsFrom l 0 andThen nestRow (holdingAll l)) ≡ verdictAnswer (listRules (holdingAll l))
+  unfolding listRules fieldsFrom nestRow
+  held-whole =
+      let z : listCount l - 0 ≡ listCount l = omega arith in
+      rw z (ap (λ v. verdictAnswer (v andThen nest wordShape (given (holdingAll l)))) (sym (holding-two l some root)))
+
+  pub held-two : (a : Refusal) → r ≡ Refused a → Refused a ≡ verdictAnswer (listRules (holdingAll l))
+  held-two a k = sym (answer-refused (fieldsFrom l 0) (nestRow (holdingAll l)) a (sym e ∙ k)) ∙ held-whole
+
+  pub held-nest : r ≡ Passed → (v : Verdict) → v ≡ verdictAnswer (nestBelow l) → v ≡ verdictAnswer (listRules (holdingAll l))
+  held-nest k v q =
+      q ∙ ap verdictAnswer (sym (held-row l some root)) ∙ sym (answer-passed (fieldsFrom l 0) (nestRow (holdingAll l)) (sym e ∙ k)) ∙ held-whole
+
+pub ruleset held-cases = (held-two, held-nest)
 
 -- ---- row 1
 

@@ -29,6 +29,10 @@ module _ (l : List ℕ) where
   unfoldable pub passFrom : ℕ → List ℕ → Verdict
   passFrom n es = nestFrom wordShape (given l) (listCount l - n) n es
 
+  -- rows 3 and 4 below the root, which is taken to hold all others
+  unfoldable pub nestBelow : Verdict
+  nestBelow = passFrom 1 (listCount l ∷ [])
+
   -- rows 3 and 4 over the whole list
   unfoldable pub nestRow : Verdict
   nestRow = nest wordShape (given l)

@@ -4,13 +4,13 @@ use tree::refusal::Refusal;
 use tree::refusal::Verdict;
 use tree::words::word_fields;
 ghost use mathlib.Core.Path.{_≡_};
-ghost use mathlib.Core.List.{[]};
 ghost use Prim.Native.Nat.{_+_, _<_, _≤_};
-ghost use lib.ListN.{length};
+ghost use lib.ListN.{length, getD};
+ghost use Rattle.format.specs.Holding.{holdingAll};
 ghost use Rattle.format.specs.Nest.{stillOpen, innermost};
 ghost use Rattle.format.specs.Verdict.{refused};
 ghost use Rattle.format.specs.WordList.{wordOf, listCount, listRules};
-ghost use Rattle.list.specs.Pass.{fieldsFrom, nextSub, isRooted, passFrom, nestRow, openEnds};
+ghost use Rattle.list.specs.Pass.{fieldsFrom, nextSub, isRooted, nestBelow, nestRow, openEnds};
 ghost use Rattle.tree.specs.Refusal.{verdictAnswer};
 
 // How many subtrees may be open at once.
@@ -112,14 +112,15 @@ fn is_rooted(l: &[u32]) -> bool
     true
 }
 
-// The ascending pass from subtree to subtree, with the ends of those that are open.
+// The ascending pass from subtree to subtree below the root, with the ends of those that are open, the root's first.
 fn nest_pass(l: &[u32], ends: &mut [u32]) -> Verdict
-    requires { ⌜ (listCount (now l) ≤ 1048576) × (length (now ends) ≡ 256) ⌝ }
-    ensures { λ r. ⌜ r ≡ verdictAnswer (passFrom (now (l .entry)) 0 []) ⌝ }
+    requires { ⌜ (1 ≤ listCount (now l)) × (listCount (now l) ≤ 1048576) ⌝ }
+    requires { ⌜ (length (now ends) ≡ 256) × (getD (now ends) 0 0 ≡ listCount (now l)) ⌝ }
+    ensures { λ r. ⌜ r ≡ verdictAnswer (nestBelow (now (l .entry))) ⌝ }
 {
     let count = l.len() / 13;
-    let mut depth: usize = 0;
-    let mut n = next_subtree(l, 0);
+    let mut depth: usize = 1;
+    let mut n = next_subtree(l, 1);
     while n < count {
         let d = still_open(ends, depth, n);
         let around = end_around(ends, d, count);
@@ -137,6 +138,16 @@ fn nest_pass(l: &[u32], ends: &mut [u32]) -> Verdict
     Verdict::Passed
 }
 
+// Rows 3 and 4 below a root that is taken to hold all others, whatever count it has stored.
+fn nest_below(l: &[u32]) -> Verdict
+    requires { ⌜ (1 ≤ listCount (now l)) × (listCount (now l) ≤ 1048576) ⌝ }
+    ensures { λ r. ⌜ r ≡ verdictAnswer (nestBelow (now (l .entry))) ⌝ }
+{
+    let mut ends = [0u32; 256];
+    ends[0] = (l.len() / 13) as u32;
+    nest_pass(l, &mut ends)
+}
+
 fn nest(l: &[u32]) -> Verdict
     requires { ⌜ (1 ≤ listCount (now l)) × (listCount (now l) ≤ 1048576) ⌝ }
     ensures { λ r. ⌜ r ≡ verdictAnswer (nestRow (now (l .entry))) ⌝ }
@@ -144,8 +155,7 @@ fn nest(l: &[u32]) -> Verdict
     if !is_rooted(l) {
         return refused(3, 0);
     }
-    let mut ends = [0u32; 256];
-    nest_pass(l, &mut ends)
+    nest_below(l)
 }
 
 // The first of rows 2 to 4 that a list breaks, at the lowest tree.
@@ -155,6 +165,17 @@ pub fn list_rules(l: &[u32]) -> Verdict
 {
     match row_two(l) {
         Verdict::Passed => nest(l),
+        Verdict::Refused(at) => Verdict::Refused(at),
+    }
+}
+
+// The same of a list whose root, a subtree, is taken to hold all others.
+pub fn list_rules_holding(l: &[u32]) -> Verdict
+    requires { ⌜ (1 ≤ listCount (now l)) × (listCount (now l) ≤ 1048576) × (getD (now l) 0 0 ≡ 3) ⌝ }
+    ensures { λ r. ⌜ r ≡ verdictAnswer (listRules (holdingAll (now (l .entry)))) ⌝ }
+{
+    match row_two(l) {
+        Verdict::Passed => nest_below(l),
         Verdict::Refused(at) => Verdict::Refused(at),
     }
 }

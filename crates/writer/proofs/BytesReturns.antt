@@ -11,11 +11,13 @@ use lib.Dec.{eqb}
 use lib.ListN.{length, getD, length-append}
 use Rattle.format.specs.Test.{if_then_else_}
 use Rattle.format.specs.Word.{put}
-use Rattle.format.specs.Tree.{Raw, subtree, isSubtree}
+use Rattle.format.specs.Tree.{Raw, subtree, isSubtree, countOf}
 use Rattle.format.specs.Fields.{fields}
 use Rattle.format.specs.Write.{treeBytes}
 use Rattle.format.specs.WordList.{wordOf, rawFrom, listCount}
 use Rattle.format.specs.Writer.{rawOf, packed}
+use Rattle.format.specs.Holding.{holdingAll}
+use Rattle.format.proofs.Holding.{holding-root, holding-other, holding-count}
 use Rattle.format.proofs.Each.{true-false}
 use Rattle.pack.specs.Answer.{spanOf}
 use Rattle.pack.specs.declared.Packed.{Packed}
@@ -31,7 +33,8 @@ use Rattle.encode.proofs.EncodeUse.{below-root, encoded-contents}
 use Rattle.writer.specs.Tail.{sizeFrom, kidsOf, bytesAt, headOf}
 use Rattle.writer.specs.Run.{Run, childrenIn, Spanned, Falls, Fits, Sized, rootOf, Advanced}
 use Rattle.writer.specs.Written.{Passed}
-use Rattle.writer.proofs.TailLaw.{size-is, size-falls, head-size, head-more, head-whole, some-trees, raw-fields, raw-indices, root-subtree}
+use Rattle.writer.proofs.TailLaw.{size-is, size-falls, size-end, head-size, head-more, head-whole, raw-fields, raw-indices, root-subtree}
+use Rattle.writer.proofs.HoldLaw.{some-trees, most-trees, held-count, low-bytes, low-fields, low-indices, hold-size, held-sized}
 use Rattle.writer.proofs.RunLaw.{run-tree, run-cases}
 use Rattle.writer.proofs.SizesReturns.{spanned, children-are, sized-down, run-low}
 
@@ -57,6 +60,11 @@ subtree-is a b d u h = go (eqb (u 0) 0) (eqb (u 0) 1) (eqb (u 0) 2) refl refl re
     go false false true e₀ e₁ e₂ = true-false false (simp (e₀, e₁, e₂) at h) refl
     go false false false e₀ e₁ e₂ = simp (e₀, e₁, e₂)
 
+-- … where another count and the words of another list say the same
+subtree-by : (a b d : ℕ) (u w : ℕ → ℕ) (n : ℕ) → isSubtree (rawFrom a b d u) ≡ true → u 6 ≡ w 6 → u 7 ≡ w 7 → u 11 ≡ w 11 → u 12 ≡ w 12 → u 1 ≡ n → u 2 ≡ w 2
+    → subtree (record { index = a; start = w 6; len = w 7 }) (record { index = b; start = w 11; len = w 12 }) n (w 2) ≡ rawFrom a b d u
+subtree-by a b d u w n h e₆ e₇ e₁₁ e₁₂ e₁ e₂ = rw (← e₆, ← e₇, ← e₁₁, ← e₁₂, ← e₁, ← e₂) (subtree-is a b d u h)
+
 -- ---- the output up to a tree
 
 module _ (p s l : List ℕ) where
@@ -81,41 +89,56 @@ module _ (p s l : List ℕ) where
   unfolding headOf
   advanced-whole out out′ a h = a .goes out h (sym (put-none out 0)) ∙ ap (put out 0) (head-whole p s l)
 
-  module _ (ok : Passed p s l) (work : List ℕ) (w : Sized p s l 0 work) where
-    -- tree n by the work words
-    module _ (n : ℕ) (h : n < listCount l) where
-      begins : getD work 0 0 - getD work n 0 ≡ length (headOf p s l n)
-      begins =
-          let a = w .at 0 (omega arith) (omega arith) in
-          let b = w .at n (omega arith) (omega arith) in
-          let c = head-size p s l n (omega arith) in
-          omega arith
+-- ---- the work words say where each tree begins, whatever count the root has stored
 
+module _ (p s l : List ℕ) (ok : Passed p s l) (work : List ℕ) (w : Sized p s l 0 work) where
+  held : Sized p s (holdingAll l) 0 work
+  held = held-sized p s l ok work w
+
+  module _ (n : ℕ) (h : n < listCount l) where
+    in-held : n < listCount (holdingAll l)
+    in-held = let c = held-count p s l ok in omega arith
+
+    begins : getD work 0 0 - getD work n 0 ≡ length (headOf p s (holdingAll l) n)
+    begins =
+        let i = in-held in
+        let a = held .at 0 (omega arith) (omega arith) in
+        let b = held .at n (omega arith) (omega arith) in
+        let c = head-size p s (holdingAll l) n (omega arith) in
+        omega arith
+
+    room-for : (out : List ℕ) → sizeFrom p s l 0 ≤ length out → length (headOf p s (holdingAll l) n) + length (bytesAt p s (holdingAll l) n) ≤ length out
+    room-for out g =
+        let i = in-held in
+        let c = head-size p s (holdingAll l) n (omega arith) in
+        let d = size-is p s (holdingAll l) n i in
+        let e = hold-size p s l ok 0 in
+        omega arith
+
+    tree-falls : Falls work n
+    tree-falls =
+        let a = w .at 0 (omega arith) (omega arith) in
+        let b = w .at n (omega arith) (omega arith) in
+        let c = size-falls p s l 0 n (omega arith) (omega arith) in
+        let d = w .room in
+        record { room = omega arith; falls = omega arith }
+
+    -- … below the root
+    module _ (m : 1 ≤ n) where
       words : Sized p s l (n + 1) work
       words = sized-down p s l (n + 1) 0 work w (omega arith)
 
-      room-for : (out : List ℕ) → sizeFrom p s l 0 ≤ length out → length (headOf p s l n) + length (bytesAt p s l n) ≤ length out
-      room-for out g =
-          let c = head-size p s l n (omega arith) in
-          let d = size-is p s l n h in
-          omega arith
+      tree-spanned : Spanned l n work
+      tree-spanned = spanned p s l ok n m work words h
 
-      pub tree-falls : Falls work n
-      tree-falls =
-          let a = w .at 0 (omega arith) (omega arith) in
-          let b = w .at n (omega arith) (omega arith) in
-          let c = size-falls p s l 0 n (omega arith) (omega arith) in
-          let d = w .room in
-          record { room = omega arith; falls = omega arith }
-
-      pub tree-spanned : Spanned l n work
-      tree-spanned = spanned p s l ok n work words h
-
-      -- … below the root, with its indices
-      module _ (m : 1 ≤ n) (t : Raw) (e : t ≡ rawOf p s l n) where
-        bytes-are : treeBytes 1 t (childrenIn l n work) ≡ bytesAt p s l n
+      -- … with its indices
+      module _ (t : Raw) (e : t ≡ rawOf p s l n) where
+        own-bytes : treeBytes 1 t (childrenIn l n work) ≡ bytesAt p s l n
         unfolding bytesAt
-        bytes-are = rw (e, children-are p s l ok n work words h) (sym (below-root n (rawOf p s l n) (kidsOf p s l n) (λ q. absurd (omega arith))))
+        own-bytes = rw (e, children-are p s l ok n m work words h) (sym (below-root n (rawOf p s l n) (kidsOf p s l n) (λ q. absurd (omega arith))))
+
+        bytes-are : treeBytes 1 t (childrenIn l n work) ≡ bytesAt p s (holdingAll l) n
+        bytes-are = own-bytes ∙ sym (low-bytes p s l (some-trees p s l ok) n m)
 
         tree-fits : (at : ℕ) → at ≡ getD work 0 0 - getD work n 0 → (out : List ℕ) → sizeFrom p s l 0 ≤ length out → Fits t (childrenIn l n work) at out
         tree-fits at f out g =
@@ -123,57 +146,82 @@ module _ (p s l : List ℕ) where
             let b = ap length bytes-are in
             let c = room-for out g in
             record {
-              inRange = ap fields e ∙ raw-fields p s l (ok .rows) n h;
-              inTable = ap indices e ∙ raw-indices p s l (ok .rows) n h;
+              inRange = ap fields e ∙ low-fields p s l ok n m h;
+              inTable = ap indices e ∙ low-indices p s l ok n m h;
               room = omega arith;
             }
 
-        tree-advances : (at : ℕ) → at ≡ getD work 0 0 - getD work n 0 → (out out′ : List ℕ) → out′ ≡ put out at (treeBytes 1 t (childrenIn l n work)) → Advanced p s l n (n + 1) out out′
-        tree-advances at f out out′ g = advance n at out out′ h (f ∙ begins) (g ∙ ap (put out at) bytes-are)
+        tree-advances : (at : ℕ) → at ≡ getD work 0 0 - getD work n 0 → (out out′ : List ℕ) → out′ ≡ put out at (treeBytes 1 t (childrenIn l n work))
+            → Advanced p s (holdingAll l) n (n + 1) out out′
+        tree-advances at f out out′ g = advance p s (holdingAll l) n at out out′ in-held (f ∙ begins) (g ∙ ap (put out at) bytes-are)
 
-    -- ---- a run
+  -- ---- a run
 
-    module _ (from stop n : ℕ) (os cs ys : List ℕ) (r : Run p s l from stop os cs ys) (g : from ≤ n) (k : n < stop) where
-      in-list : n < listCount l
-      in-list = let a = r .last in omega arith
+  module _ (from stop n : ℕ) (os cs ys : List ℕ) (r : Run p s l from stop os cs ys) (g : from ≤ n) (k : n < stop) where
+    in-list : n < listCount l
+    in-list = let a = r .last in omega arith
 
-      below : 1 ≤ n
-      below = let a = r .below in omega arith
+    below : 1 ≤ n
+    below = let a = r .below in omega arith
 
-      pub run-falls : Falls work n
-      run-falls = tree-falls n in-list
+    pub run-falls : Falls work n
+    run-falls = tree-falls n in-list
 
-      pub run-spanned : Spanned l n work
-      run-spanned = tree-spanned n in-list
+    pub run-spanned : Spanned l n work
+    run-spanned = tree-spanned n in-list below
 
-      module _ (at : ℕ) (f : at ≡ getD work 0 0 - getD work n 0) (out : List ℕ) where
-        pub run-fits : (out₀ : List ℕ) → length out ≡ length out₀ → sizeFrom p s l 0 ≤ length out₀
-            → Fits (rawFrom (getD os (n - from) 0) (getD cs (n - from) 0) (getD ys (n - from) 0) (wordOf l n)) (childrenIn l n work) at out
-        run-fits out₀ e i = tree-fits n in-list below _ (run-tree p s l from stop n os cs ys r g k) at f out (omega arith)
+    module _ (at : ℕ) (f : at ≡ getD work 0 0 - getD work n 0) (out : List ℕ) where
+      pub run-fits : (out₀ : List ℕ) → length out ≡ length out₀ → sizeFrom p s l 0 ≤ length out₀
+          → Fits (rawFrom (getD os (n - from) 0) (getD cs (n - from) 0) (getD ys (n - from) 0) (wordOf l n)) (childrenIn l n work) at out
+      run-fits out₀ e i = tree-fits n in-list below _ (run-tree p s l from stop n os cs ys r g k) at f out (omega arith)
 
-        pub run-advances : (out₀ : List ℕ) → Advanced p s l from n out₀ out → (out′ : List ℕ)
-            → out′ ≡ put out at (treeBytes 1 (rawFrom (getD os (n - from) 0) (getD cs (n - from) 0) (getD ys (n - from) 0) (wordOf l n)) (childrenIn l n work))
-            → Advanced p s l from (n + 1) out₀ out′
-        run-advances out₀ a out′ e =
-            advanced-next from n (n + 1) out₀ out out′ a (tree-advances n in-list below _ (run-tree p s l from stop n os cs ys r g k) at f out out′ e)
+      pub run-advances : (out₀ : List ℕ) → Advanced p s (holdingAll l) from n out₀ out → (out′ : List ℕ)
+          → out′ ≡ put out at (treeBytes 1 (rawFrom (getD os (n - from) 0) (getD cs (n - from) 0) (getD ys (n - from) 0) (wordOf l n)) (childrenIn l n work))
+          → Advanced p s (holdingAll l) from (n + 1) out₀ out′
+      run-advances out₀ a out′ e =
+          advanced-next p s (holdingAll l) from n (n + 1) out₀ out out′ a (tree-advances n in-list below _ (run-tree p s l from stop n os cs ys r g k) at f out out′ e)
 
-    -- ---- the root
+  -- ---- the root
 
-    root-is : subtree (spanOf (rootOf l (length p / 3) .opening)) (spanOf (rootOf l (length p / 3) .closing)) (rootOf l (length p / 3) .len .0) (rootOf l (length p / 3) .kind) ≡ rawOf p s l 0
-    root-is = subtree-is (length p / 3 - 2) (length p / 3 - 1) 0 (wordOf l 0) (root-subtree p s l (ok .rows))
+  pub root-some : 1 ≤ listCount l
+  root-some = some-trees p s l ok
 
-    pub root-spanned : Spanned l 0 work
-    root-spanned = tree-spanned 0 (some-trees p s l (ok .rows))
+  pub root-most : listCount l ≤ 1048576
+  root-most = most-trees p s l ok
 
-    pub root-advances : (q : RawSubtree) → q ≡ rootOf l (length p / 3) → (k : ChildrenBytes) → k ≡ record { 0 = childrenIn l 0 work } → (out : List ℕ) → sizeFrom p s l 0 ≤ length out
-        → (r : Packed) (out′ : List ℕ) → TreePacked out 0 0 (subtree (spanOf (q .opening)) (spanOf (q .closing)) (q .len .0) (q .kind)) (k .0) r out′ → Advanced p s l 0 1 out out′
-    unfolding headOf bytesAt
-    root-advances q e k f out h r out′ t =
-        let one = some-trees p s l (ok .rows) in
-        let c = children-are p s l ok 0 work (words 0 one) one in
-        let t′ : TreePacked out 0 0 (rawOf p s l 0) (kidsOf p s l 0) r out′ = rw (f, c) at (rw root-is at (rw e at t)) in
-        let g = room-for 0 one out h in
-        advance 0 0 out out′ one refl (encoded-contents out 0 0 (rawOf p s l 0) (kidsOf p s l 0) r out′ t′ (raw-fields p s l (ok .rows) 0 one) (raw-indices p s l (ok .rows) 0 one) g)
+  pub root-word : 1 < length work
+  root-word = let a = root-some in let b = w .room in omega arith
+
+  root-is : subtree (spanOf (rootOf l (length p / 3) .opening)) (spanOf (rootOf l (length p / 3) .closing)) (rootOf l (length p / 3) .len .0) (rootOf l (length p / 3) .kind)
+      ≡ rawOf p s (holdingAll l) 0
+  root-is =
+      let one = root-some in
+      subtree-by (length p / 3 - 2) (length p / 3 - 1) 0 (wordOf (holdingAll l) 0) (wordOf l 0) (listCount l - 1) (root-subtree p s (holdingAll l) (ok .rows))
+      (holding-other l one 6 (λ e. absurd (omega arith))) (holding-other l one 7 (λ e. absurd (omega arith))) (holding-other l one 11 (λ e. absurd (omega arith)))
+      (holding-other l one 12 (λ e. absurd (omega arith))) (holding-root l one) (holding-other l one 2 (λ e. absurd (omega arith)))
+
+  -- all other bytes are its children's
+  root-kids : getD work 1 0 ≡ kidsOf p s (holdingAll l) 0
+  unfolding kidsOf
+  root-kids =
+      let one = root-some in
+      let c = held-count p s l ok in
+      let a : countOf (rawOf p s (holdingAll l) 0) ≡ listCount l - 1 = ap countOf (sym root-is) in
+      let b : 0 + 1 + countOf (rawOf p s (holdingAll l) 0) ≡ listCount (holdingAll l) = omega arith in
+      let d = ap (sizeFrom p s (holdingAll l)) b ∙ size-end p s (holdingAll l) in
+      let e = held .at 1 (omega arith) (omega arith) in
+      omega arith
+
+  pub root-advances : (q : RawSubtree) → q ≡ rootOf l (length p / 3) → (out : List ℕ) → sizeFrom p s l 0 ≤ length out → (r : Packed) (out′ : List ℕ)
+      → TreePacked out 0 0 (subtree (spanOf (q .opening)) (spanOf (q .closing)) (q .len .0) (q .kind)) (getD work 1 0) r out′ → Advanced p s (holdingAll l) 0 1 out out′
+  unfolding headOf bytesAt
+  root-advances q e out h r out′ t =
+      let one = root-some in
+      let i = in-held 0 one in
+      let t′ : TreePacked out 0 0 (rawOf p s (holdingAll l) 0) (kidsOf p s (holdingAll l) 0) r out′ = rw root-kids at (rw root-is at (rw e at t)) in
+      let g = room-for 0 one out h in
+      advance p s (holdingAll l) 0 0 out out′ i refl (encoded-contents out 0 0 (rawOf p s (holdingAll l) 0) (kidsOf p s (holdingAll l) 0) r out′ t′
+      (raw-fields p s (holdingAll l) (ok .rows) 0 i) (raw-indices p s (holdingAll l) (ok .rows) 0 i) g)
 
 pub run-ends : (p s l : List ℕ) (from stop n : ℕ) (out out′ : List ℕ) → Advanced p s l from n out out′ → n ≤ stop → stop ≤ n → Advanced p s l from stop out out′
 run-ends p s l from stop n out out′ a h k = let e : n ≡ stop = omega arith in rw e at a
@@ -184,10 +232,14 @@ pub ruleset put-run-cases = (run-low, run-falls, run-spanned, run-fits, run-adva
 
 pub ruleset put-all-cases = (run-cases, advanced-none, advanced-next, run-ends)
 
-pub ruleset put-root-cases = (root-spanned, root-advances)
+pub ruleset put-root-cases = (root-some, root-most, root-word, root-advances)
 
-pub put-whole : (p s l out out₁ out₂ : List ℕ) → Advanced p s l 0 1 out out₁ → Advanced p s l 1 (listCount l) out₁ out₂ → sizeFrom p s l 0 ≤ length out → out₂ ≡ put out 0 (packed p s l)
-put-whole p s l out out₁ out₂ a b h = advanced-whole p s l out out₂ (advanced-next p s l 0 1 (listCount l) out out₁ out₂ a b) h
+pub put-whole : (p s l : List ℕ) → Passed p s l → (out out₁ out₂ : List ℕ) → Advanced p s (holdingAll l) 0 1 out out₁ → Advanced p s (holdingAll l) 1 (listCount l) out₁ out₂
+    → sizeFrom p s l 0 ≤ length out → out₂ ≡ put out 0 (packed p s (holdingAll l))
+put-whole p s l ok out out₁ out₂ a b h =
+    let e = hold-size p s l ok 0 in
+    let b′ : Advanced p s (holdingAll l) 1 (listCount (holdingAll l)) out₁ out₂ = rw (held-count p s l ok) b in
+    advanced-whole p s (holdingAll l) out out₂ (advanced-next p s (holdingAll l) 0 1 (listCount (holdingAll l)) out out₁ out₂ a b′) (omega arith)
 
 pub still-room : (n : ℕ) (out out′ : List ℕ) → n ≤ length out → length out′ ≡ length out → n ≤ length out′
 still-room n out out′ h e = omega arith

@@ -1,24 +1,29 @@
 -- The rows in turn: one law for each return of src/encode.rt.
 use Prim.Native.Nat.{ℕ, zero, suc, _+_, _-_, _/_, _%_, _≤_, _<_}
 use mathlib.Core.Bool.{Bool, true, false, not, _&&_}
-use mathlib.Core.Path.{_≡_, refl, sym, ap, _∙_}
+use mathlib.Core.Path.{_≡_, refl, sym, ap, _∙_, subst}
 use mathlib.Core.List.{List, []}
 use mathlib.Core.Logic.{⊎-elim}
 use native.Mathlib.Omega.{arith}
 use native.Mathlib.Nat.{zero-add}
-use borrow.Author.Tests.{le-leb, lt-leb, leb-true, eq-eqb, ne-eqb, not-true, not-false}
+use borrow.Author.Tests.{le-leb, lt-leb, leb-true, eq-eqb, ne-eqb, eqb-true, not-true, not-false}
 use lib.Dec.{leb, eqb}
 use lib.ListN.{length, getD, replicate, length-replicate}
 use lib.Seq.{ext-getD}
 use Rattle.format.specs.Test.{if_then_else_}
 use Rattle.format.specs.Verdict as format
-use Rattle.format.specs.Verdict.{passed, refused, refusal, _andThen_, eachFrom}
+use Rattle.format.specs.Verdict.{passed, refused, refusal, _andThen_, eachFrom, each}
 use Rattle.format.specs.Word.{put}
 use Rattle.format.specs.Write.{workWords}
 use Rattle.format.specs.Tables.{ownTables}
-use Rattle.format.specs.WordList.{listCount, listSized, listRules}
-use Rattle.format.specs.Writer.{present, listVerdict, trees, packed}
-use Rattle.format.proofs.Each.{and₃, and-right}
+use Rattle.format.specs.WordList.{listCount, given, rowTwo, listSized, listRules}
+use Rattle.format.specs.Plain.{sub, endOf}
+use Rattle.format.specs.Nest.{rooted, nestFrom, nest}
+use Rattle.format.specs.Buffer.{wordShape}
+use Rattle.format.specs.Holding.{holdingAll}
+use Rattle.format.specs.Writer.{present, rowFive, listVerdict, trees, packed}
+use Rattle.format.proofs.Each.{and₃, and-right, both, refused-not}
+use Rattle.format.proofs.Holding.{holding-length, holding-count, holding-same, holding-five}
 use Rattle.format.proofs.Tally.{lt-or-le}
 use Rattle.format.proofs.Put.{put-length, put-at, put-after}
 use Rattle.places.specs.Places.{Roomy}
@@ -33,6 +38,7 @@ use Rattle.writer.specs.Tail.{fiveFrom, restOf, sizeFrom}
 use Rattle.writer.specs.Run.{firstAbsent, Lent, Ready, Sized, Beyond}
 use Rattle.writer.specs.Written.{Written, Within, Ruled, Passed, Finished}
 use Rattle.writer.proofs.TailLaw.{work-length, work-at}
+use Rattle.writer.proofs.HoldLaw.{held-count, hold-size}
 use Rattle.writer.proofs.RunLaw.{run-cases, ready-roomy, ready-indexed, run-whole, lent-roomy, lent-ready, same-chain}
 use Rattle.writer.proofs.FiveReturns.{five-past, five-here, five-once, five-through}
 
@@ -115,7 +121,23 @@ module _ (p s l : List ℕ) where
     unfolding reportAnswer
     written-as r n q f e = rw f (was-written r n e)
 
--- ---- the public function
+-- rows 3 and 4 begin with the root's count
+root-count : (l : List ℕ) → listRules l ≡ passed → getD l 1 0 ≡ listCount l - 1
+unfolding listRules
+root-count l e =
+    let a = both (each (rowTwo l) (listCount l)) (nest wordShape (given l)) e in
+    let b = rooted-is (rooted wordShape (given l)) (nestFrom wordShape (given l) (listCount l) 0 []) (a .1) in
+    let c = eqb-true _ _ (and-right (sub wordShape (given l) 0) (eqb (endOf wordShape (given l) 0) (listCount l)) b) in
+    sum (getD l 1 0) (listCount l) c
+  where
+    rooted-is : (x : Bool) (v : format.Verdict) → (if x then v else refused 3 0) ≡ passed → x ≡ true
+    rooted-is true v e = refl
+    rooted-is false v e = refused-not 3 0 e
+
+    sum : (a k : ℕ) → 0 + 1 + a ≡ k → a ≡ k - 1
+    sum a k e = omega arith
+
+-- ---- the public functions
 
 module _ (p s l : List ℕ) (x : Bool) (e : x ≡ listSized l) where
   pub row-one-list : not x ≡ true → (work out : List ℕ) (q : Report) → q ≡ reportAnswer (refusal 1 0) → Written p s l work out q work out
@@ -166,17 +188,58 @@ module _ (p s l : List ℕ) (x : Bool) (e : x ≡ listSized l) where
           pub rules-refused : (a : Refusal) → v ≡ verdicts.Refused a → (work out : List ℕ) → Written p s l work out (Refused a) work out
           rules-refused a q work out = written-at p s l work out a (verdict-rules p s l sized (a .number) (a .tree) (was-refused (listRules l) a (sym g ∙ q)))
 
-pub rules-passed : (l : List ℕ) (v : Verdict) → v ≡ verdictAnswer (listRules l) → v ≡ verdicts.Passed → listRules l ≡ passed
-rules-passed l v g q = was-passed (listRules l) (sym g ∙ q)
+-- a list that rows 2 to 4 pass has a root that holds all others
+module _ (l : List ℕ) (some : 1 ≤ listCount l) (v : Verdict) (g : v ≡ verdictAnswer (listRules l)) (q : v ≡ verdicts.Passed) where
+  own-rules : listRules l ≡ passed
+  own-rules = was-passed (listRules l) (sym g ∙ q)
 
-pub ruleset list-cases = (row-one-list, some-listed, most-listed, row-one-tables, within, rules-refused, rules-passed)
+  as-it-is : holdingAll l ≡ l
+  as-it-is = holding-same l some (root-count l own-rules)
+
+  pub rules-passed : listRules (holdingAll l) ≡ passed
+  rules-passed = ap listRules as-it-is ∙ own-rules
+
+  pub written-list : (p s work out : List ℕ) (r : Report) (work′ out′ : List ℕ) → Written p s (holdingAll l) work out r work′ out′ → Written p s l work out r work′ out′
+  written-list p s work out r work′ out′ h = subst (λ (m : List ℕ). Written p s m work out r work′ out′) as-it-is h
+
+pub ruleset list-cases = (row-one-list, some-listed, most-listed, row-one-tables, within, rules-refused, rules-passed, written-list)
+
+-- ---- the same where the root is taken to hold all others
+
+module _ (p s l : List ℕ) (some : 1 ≤ listCount l) (x : Bool) (e : x ≡ listSized l) where
+  held-size : x ≡ listSized (holdingAll l)
+  held-size = let n = holding-length l some in e ∙ rw n
+
+  pub row-one-held : not x ≡ true → (work out : List ℕ) (q : Report) → q ≡ reportAnswer (refusal 1 0) → Written p s (holdingAll l) work out q work out
+  row-one-held h work out q f = row-one-list p s (holdingAll l) x held-size h work out q f
+
+  module _ (h : not x ≡ false) (y : Bool) (f : y ≡ ownTables p s .sized) where
+    pub row-one-held-tables : not y ≡ true → (work out : List ℕ) (q : Report) → q ≡ reportAnswer (refusal 1 0) → Written p s (holdingAll l) work out q work out
+    row-one-held-tables k work out q g = row-one-tables p s (holdingAll l) x held-size h y f k work out q g
+
+    pub held-refused : not y ≡ false → (v : Verdict) → v ≡ verdictAnswer (listRules (holdingAll l)) → (a : Refusal) → v ≡ verdicts.Refused a → (work out : List ℕ)
+        → Written p s (holdingAll l) work out (Refused a) work out
+    held-refused k v g a q work out = rules-refused p s (holdingAll l) x held-size h y f k v g a q work out
+
+pub held-passed : (l : List ℕ) (v : Verdict) → v ≡ verdictAnswer (listRules (holdingAll l)) → v ≡ verdicts.Passed → listRules (holdingAll l) ≡ passed
+held-passed l v g q = was-passed (listRules (holdingAll l)) (sym g ∙ q)
+
+pub ruleset held-cases = (row-one-held, most-listed, row-one-held-tables, within, held-refused, held-passed)
 
 -- ---- row 5
 
-module _ (p s l : List ℕ) (w : Within p s l) (r : listRules l ≡ passed) (x : Bool) (e : x ≡ present p [] l 0) where
-  pub root-absent : not x ≡ true → (work out : List ℕ) (q : Report) → q ≡ reportAnswer (refusal 5 0) → Written p s l work out q work out
+-- row 5 does not turn on the root's count
+module _ (p s l : List ℕ) (w : Within p s l) (r : listRules (holdingAll l) ≡ passed) where
+  held-five : listVerdict p s (holdingAll l) ≡ fiveFrom p s l 0
+  unfolding fiveFrom
+  held-five =
+      let n = holding-length l (w .someTrees) in
+      verdict-five p s (holdingAll l) (rw n (w .sized)) r ∙ ap (λ k. eachFrom (rowFive p s (holdingAll l)) (k - 0) 0) (holding-count l (w .someTrees)) ∙ holding-five l (w .someTrees) p s (listCount l - 0) 0
+
+module _ (p s l : List ℕ) (w : Within p s l) (r : listRules (holdingAll l) ≡ passed) (x : Bool) (e : x ≡ present p [] l 0) where
+  pub root-absent : not x ≡ true → (work out : List ℕ) (q : Report) → q ≡ reportAnswer (refusal 5 0) → Written p s (holdingAll l) work out q work out
   root-absent h work out q f =
-      written-as p s l work out 5 0 q f (verdict-five p s l (w .sized) r ∙ five-here p s l 0 (w .someTrees) (sym e ∙ not-true x h))
+      written-as p s (holdingAll l) work out 5 0 q f (held-five p s l w r ∙ five-here p s l 0 (w .someTrees) (sym e ∙ not-true x h))
 
   pub ruled : not x ≡ false → Ruled p s l
   ruled h = record { within = w; rules = r; root = sym e ∙ not-false x h }
@@ -184,12 +247,12 @@ module _ (p s l : List ℕ) (w : Within p s l) (r : listRules l ≡ passed) (x :
 pub ruleset ruled-cases = (root-absent, ruled)
 
 module _ (p s l : List ℕ) (w : Ruled p s l) where
-  below : listVerdict p s l ≡ fiveFrom p s l 1
-  below = verdict-five p s l (w .within .sized) (w .rules) ∙ five-past p s l 0 (w .within .someTrees) (w .root)
+  below : listVerdict p s (holdingAll l) ≡ fiveFrom p s l 1
+  below = held-five p s l (w .within) (w .rules) ∙ five-past p s l 0 (w .within .someTrees) (w .root)
 
   module _ (v : Verdict) (g : v ≡ verdictAnswer (fiveFrom p s l 1)) where
-    pub five-refused : (a : Refusal) → v ≡ verdicts.Refused a → (work out : List ℕ) → Written p s l work out (Refused a) work out
-    five-refused a q work out = written-at p s l work out a (below ∙ was-refused (fiveFrom p s l 1) a (sym g ∙ q))
+    pub five-refused : (a : Refusal) → v ≡ verdicts.Refused a → (work out : List ℕ) → Written p s (holdingAll l) work out (Refused a) work out
+    five-refused a q work out = written-at p s (holdingAll l) work out a (below ∙ was-refused (fiveFrom p s l 1) a (sym g ∙ q))
 
     pub five-passed : v ≡ verdicts.Passed → Passed p s l
     five-passed q = record { within = w .within; rows = below ∙ was-passed (fiveFrom p s l 1) (sym g ∙ q) }
@@ -199,8 +262,8 @@ module _ (p s l : List ℕ) (w : Ruled p s l) where
 
   -- … where the trees below the root are one run
   module _ (m : ℕ) (f : m ≡ firstAbsent p s l 1 (listCount l)) where
-    pub once-refused : m < listCount l → (work out : List ℕ) (q : Report) → q ≡ reportAnswer (refusal 5 m) → Written p s l work out q work out
-    once-refused h work out q g = written-as p s l work out 5 m q g (below ∙ five-once p s l m f (w .within .someTrees) h)
+    pub once-refused : m < listCount l → (work out : List ℕ) (q : Report) → q ≡ reportAnswer (refusal 5 m) → Written p s (holdingAll l) work out q work out
+    once-refused h work out q g = written-as p s (holdingAll l) work out 5 m q g (below ∙ five-once p s l m f (w .within .someTrees) h)
 
     pub once-passed : listCount l ≤ m → Passed p s l
     once-passed h = record { within = w .within; rows = below ∙ five-through p s l m f (w .within .someTrees) h }
@@ -234,45 +297,45 @@ pub ruleset class-cases = (zeros-lent)
 
 -- ---- row 6
 
-module _ (p s l work : List ℕ) (w : Sized p s l 0 work) (t : ℕ) (e : t ≡ getD work 0 0) where
-  total : t ≡ length (packed p s l)
+module _ (p s l : List ℕ) (ok : Passed p s l) (work : List ℕ) (w : Sized p s l 0 work) (t : ℕ) (e : t ≡ getD work 0 0) where
+  total : t ≡ length (packed p s (holdingAll l))
   unfolding restOf
-  total = e ∙ w .at 0 (omega arith) (omega arith)
+  total = e ∙ w .at 0 (omega arith) (omega arith) ∙ sym (hold-size p s l ok 0)
 
   module _ (out : List ℕ) where
-    pub out-short : length out < t → (q : Report) → q ≡ reportAnswer (refusal 6 0) → Finished p s l out q out
+    pub out-short : length out < t → (q : Report) → q ≡ reportAnswer (refusal 6 0) → Finished p s (holdingAll l) out q out
     out-short h q f =
         let z = total in
-        let a : leb (length (packed p s l)) (length out) ≡ false = lt-leb (length (packed p s l)) (length out) (omega arith) in
+        let a : leb (length (packed p s (holdingAll l))) (length out) ≡ false = lt-leb (length (packed p s (holdingAll l))) (length out) (omega arith) in
         record { answer = f ∙ simp a; contents = simp a }
 
     module _ (h : t ≤ length out) where
       pub out-fits : sizeFrom p s l 0 ≤ length out
-      unfolding restOf
-      out-fits = let z = total in omega arith
+      out-fits = let z = w .at 0 (omega arith) (omega arith) in omega arith
 
-      pub out-written : (out′ : List ℕ) → out′ ≡ put out 0 (packed p s l) → Finished p s l out (Wrote t) out′
+      pub out-written : (out′ : List ℕ) → out′ ≡ put out 0 (packed p s (holdingAll l)) → Finished p s (holdingAll l) out (Wrote t) out′
       unfolding reportAnswer
       out-written out′ f =
           let z = total in
-          let a : leb (length (packed p s l)) (length out) ≡ true = le-leb (length (packed p s l)) (length out) (omega arith) in
+          let a : leb (length (packed p s (holdingAll l))) (length out) ≡ true = le-leb (length (packed p s (holdingAll l))) (length out) (omega arith) in
           record { answer = rw z (simp a); contents = f ∙ simp a }
 
 pub ruleset finish-cases = (out-short, out-fits, out-written)
 
 module _ (p s l : List ℕ) (ok : Passed p s l) (work : List ℕ) where
-  pub work-short : length work ≤ listCount l → (out : List ℕ) (q : Report) → q ≡ reportAnswer (refusal 6 0) → Written p s l work out q work out
+  pub work-short : length work ≤ listCount l → (out : List ℕ) (q : Report) → q ≡ reportAnswer (refusal 6 0) → Written p s (holdingAll l) work out q work out
   work-short h out q f =
       let v = ok .rows in
-      let a : leb (listCount l + 1) (length work) ≡ false = lt-leb (listCount l + 1) (length work) (omega arith) in
+      let n = held-count p s l ok in
+      let a : leb (listCount (holdingAll l) + 1) (length work) ≡ false = lt-leb (listCount (holdingAll l) + 1) (length work) (omega arith) in
       record { answer = f ∙ simp (v, a); works = simp (v, a); outs = simp (v, a) }
 
   module _ (h : listCount l < length work) (work′ : List ℕ) (w : Sized p s l 0 work′) (b : Beyond l work′ work) where
     abbrev words : List ℕ
-    words = workWords (trees p s l)
+    words = workWords (trees p s (holdingAll l))
 
     fits : 0 + length words ≤ length work
-    fits = let a = work-length p s l in omega arith
+    fits = let n = held-count p s l ok in let a = work-length p s (holdingAll l) in omega arith
 
     filled : work′ ≡ put work 0 words
     filled =
@@ -282,19 +345,22 @@ module _ (p s l : List ℕ) (ok : Passed p s l) (work : List ℕ) where
       where
         trees-word : (i : ℕ) → i < listCount l + 1 → getD work′ i 0 ≡ getD (put work 0 words) i 0
         trees-word i g =
-            let a = work-length p s l in
+            let n = held-count p s l ok in
+            let a = work-length p s (holdingAll l) in
             let e : getD (put work 0 words) i 0 ≡ getD words i 0 = rw (zero-add i) at (put-at work 0 words fits i (omega arith)) in
-            w .at i (omega arith) (omega arith) ∙ sym (work-at p s l i) ∙ sym e
+            w .at i (omega arith) (omega arith) ∙ sym (hold-size p s l ok i) ∙ sym (work-at p s (holdingAll l) i) ∙ sym e
 
         later-word : (i : ℕ) → listCount l + 1 ≤ i → getD work′ i 0 ≡ getD (put work 0 words) i 0
         later-word i g =
-            let a = work-length p s l in
+            let n = held-count p s l ok in
+            let a = work-length p s (holdingAll l) in
             b .same i (omega arith) ∙ sym (put-after work 0 words fits i (omega arith))
 
-    pub work-filled : (out : List ℕ) (q : Report) (out′ : List ℕ) → Finished p s l out q out′ → Written p s l work out q work′ out′
+    pub work-filled : (out : List ℕ) (q : Report) (out′ : List ℕ) → Finished p s (holdingAll l) out q out′ → Written p s (holdingAll l) work out q work′ out′
     work-filled out q out′ f =
         let v = ok .rows in
-        let a : leb (listCount l + 1) (length work) ≡ true = le-leb (listCount l + 1) (length work) (omega arith) in
+        let n = held-count p s l ok in
+        let a : leb (listCount (holdingAll l) + 1) (length work) ≡ true = le-leb (listCount (holdingAll l) + 1) (length work) (omega arith) in
         record { answer = f .answer ∙ simp (v, a); works = filled ∙ simp (v, a); outs = f .contents ∙ simp (v, a) }
 
 pub ruleset passed-cases = (run-cases, work-short, work-filled)

@@ -1,4 +1,5 @@
 pub mod TailLaw
+pub mod HoldLaw
 pub mod RunLaw
 pub mod FiveReturns
 pub mod SizesReturns

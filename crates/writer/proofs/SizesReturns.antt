@@ -25,7 +25,8 @@ use Rattle.encode.proofs.EncodeUse.{below-root}
 use Rattle.writer.specs.Tail.{sizeFrom, kidsOf, bytesAt}
 use Rattle.writer.specs.Run.{Run, countIn, childrenIn, Spanned, Sized, Beyond}
 use Rattle.writer.specs.Written.{Passed}
-use Rattle.writer.proofs.TailLaw.{size-is, size-falls, size-most, size-end, some-trees, most-trees, raw-ends, root-size}
+use Rattle.writer.proofs.TailLaw.{size-is, size-falls, size-most, size-end}
+use Rattle.writer.proofs.HoldLaw.{some-trees, most-trees, low-ends, top-size}
 use Rattle.writer.proofs.RunLaw.{first-word, run-tree, run-cases}
 
 -- ---- the descendants of a tree
@@ -122,10 +123,10 @@ count-is p s l n = go (eqb n 0) refl
     go false z = simp z (sym (count-any _ _ _ (wordOf l n)))
 
 module _ (p s l : List ℕ) (ok : Passed p s l) where
-  -- tree n by the words behind it
-  module _ (n : ℕ) (work : List ℕ) (w : Sized p s l (n + 1) work) (h : n < listCount l) where
+  -- tree n, below the root, by the words behind it
+  module _ (n : ℕ) (m : 1 ≤ n) (work : List ℕ) (w : Sized p s l (n + 1) work) (h : n < listCount l) where
     end-in : n + 1 + countIn l n ≤ listCount l
-    end-in = let e = count-is p s l n in let a = raw-ends p s l (ok .rows) n h in omega arith
+    end-in = let e = count-is p s l n in let a = low-ends p s l ok n m h in omega arith
 
     word-after : getD work (n + 1) 0 ≡ sizeFrom p s l (n + 1)
     word-after = w .at (n + 1) (omega arith) (omega arith)
@@ -140,7 +141,7 @@ module _ (p s l : List ℕ) (ok : Passed p s l) where
         let c = word-after in
         let d = word-end in
         let e = size-falls p s l (n + 1) (n + 1 + countIn l n) (omega arith) a in
-        record { tree = h; many = most-trees p s l (ok .rows); room = omega arith; falls = omega arith }
+        record { tree = h; many = most-trees p s l ok; room = omega arith; falls = omega arith }
 
     pub children-are : childrenIn l n work ≡ kidsOf p s l n
     unfolding childrenIn kidsOf
@@ -154,11 +155,14 @@ module _ (p s l : List ℕ) (ok : Passed p s l) where
     in-list : n - 1 < listCount l
     in-list = let a = r .last in omega arith
 
+    under : 1 ≤ n - 1
+    under = let a = r .below in omega arith
+
     words : Sized p s l (n - 1 + 1) work
     words = rw one-on w
 
     pub run-spanned : Spanned l (n - 1) work
-    run-spanned = spanned (n - 1) work words in-list
+    run-spanned = spanned (n - 1) under work words in-list
 
     pub word-fits : (t : Raw) (c x : ℕ) → x ≡ length (treeBytes 1 t c) → x + getD work n 0 < 4294967296
     word-fits t c x e =
@@ -166,7 +170,7 @@ module _ (p s l : List ℕ) (ok : Passed p s l) where
         let b = r .last in
         let d = w .at n (omega arith) (omega arith) in
         let f = size-most p s l n (omega arith) in
-        let g = most-trees p s l (ok .rows) in
+        let g = most-trees p s l ok in
         omega arith
 
     module _ (x : ℕ) (e : x ≡ length (treeBytes 1 (rawFrom (getD os (n - 1 - from) 0) (getD cs (n - 1 - from) 0) (getD ys (n - 1 - from) 0) (wordOf l (n - 1))) (childrenIn l (n - 1) work))) where
@@ -176,7 +180,7 @@ module _ (p s l : List ℕ) (ok : Passed p s l) where
           let a = r .below in
           let b = r .last in
           let t = run-tree p s l from stop (n - 1) os cs ys r (omega arith) (omega arith) in
-          let c = children-are (n - 1) work words in-list in
+          let c = children-are (n - 1) under work words in-list in
           let f : x ≡ length (bytesAt p s l (n - 1)) = e ∙ rw (t, c) (ap length (sym (below-root (n - 1) (rawOf p s l (n - 1)) (kidsOf p s l (n - 1)) (λ q. absurd (omega arith))))) in
           let g = size-is p s l (n - 1) in-list in
           let i : sizeFrom p s l (n - 1 + 1) ≡ sizeFrom p s l n = ap (sizeFrom p s l) one-on in
@@ -242,7 +246,7 @@ module _ (p s l : List ℕ) (ok : Passed p s l) (work : List ℕ) where
 
   module _ (w : Sized p s l 1 work) where
     one : 1 ≤ listCount l
-    one = some-trees p s l (ok .rows)
+    one = some-trees p s l ok
 
     pub root-room : 1 < length work
     root-room = let a = one in let b = w .room in omega arith
@@ -251,7 +255,7 @@ module _ (p s l : List ℕ) (ok : Passed p s l) (work : List ℕ) where
     root-fits =
         let a = w .at 1 (omega arith) one in
         let b = size-most p s l 1 one in
-        let c = most-trees p s l (ok .rows) in
+        let c = most-trees p s l ok in
         omega arith
 
     pub root-word : Sized p s l 0 (set work 0 (33 + getD work 1 0))
@@ -267,7 +271,7 @@ module _ (p s l : List ℕ) (ok : Passed p s l) (work : List ℕ) where
             let q = eqb-true i 0 z in
             let a = w .room in
             let c = size-is p s l 0 one in
-            let d = root-size p s l (ok .rows) in
+            let d = top-size p s l ok in
             let e = w .at 1 (omega arith) one in
             rw q (getD-set-same work 0 (33 + getD work 1 0) 0 (omega arith) ∙ sum c d e)
           where

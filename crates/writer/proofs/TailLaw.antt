@@ -142,17 +142,22 @@ module _ (parts symbols l : List ℕ) where
   unfolding restOf
   work-at n = lengths-at (suffixes 0 (trees parts symbols l)) n
 
+  -- a root has a size of its own
+  pub root-33 : (t : Raw) (k : ℕ) → isSubtree t ≡ true → length (treeBytes 0 t k) ≡ 33
+  unfolding treeBytes rootBytes heavyBytes
+  root-33 (punct s c x) k e = true-false false e refl
+  root-33 (ident s i r) k e = true-false false e refl
+  root-33 (literal s i m r x) k e = true-false false e refl
+  root-33 (subtree s t n d) k e = refl
+
   -- ---- a list that rows 1 to 5 pass
 
   module _ (ok : listVerdict parts symbols l ≡ passed) where
     abbrev ruled : Lawful (ownTables parts symbols) (trees parts symbols l) none
     ruled = lawful parts symbols l ok
 
-    pub some-trees : 1 ≤ listCount l
+    some-trees : 1 ≤ listCount l
     some-trees = let a = ruled .some in let z = raws-length (listCount l) 0 in omega arith
-
-    pub most-trees : listCount l ≤ 1048576
-    most-trees = let a = ruled .bounded in let z = raws-length (listCount l) 0 in omega arith
 
     module _ (n : ℕ) (h : n < listCount l) where
       here : n < length (trees parts symbols l)
@@ -184,13 +189,6 @@ module _ (parts symbols l : List ℕ) where
 
       pub raw-ends : n + 1 + countOf (rawOf parts symbols l n) ≤ listCount l
       raw-ends = ends-in (rawOf parts symbols l n) (tree-at n h)
-
-    root-33 : (t : Raw) (k : ℕ) → isSubtree t ≡ true → length (treeBytes 0 t k) ≡ 33
-    unfolding treeBytes rootBytes heavyBytes
-    root-33 (punct s c x) k e = true-false false e refl
-    root-33 (ident s i r) k e = true-false false e refl
-    root-33 (literal s i m r x) k e = true-false false e refl
-    root-33 (subtree s t n d) k e = refl
 
     pub root-subtree : isSubtree (rawOf parts symbols l 0) ≡ true
     root-subtree = ap isSubtree (sym (tree-at 0 some-trees)) ∙ sym (ruled .sort 0 (ruled .some)) ∙ ruled .rooted

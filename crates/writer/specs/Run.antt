@@ -95,13 +95,13 @@ pub record Fits (t : Raw) (kids at : ℕ) (out : List ℕ) : Type 0 where
   pub inTable : indices t ≡ true
   pub room : at + length (treeBytes 1 t kids) ≤ length out
 
--- the root by its words, "part indices the last two of the table"
+-- the root by its words, "part indices the last two of the table"; it holds all others
 abbrev pub rootOf : List ℕ → ℕ → RawSubtree
 rootOf l parts =
     record {
       opening = record { index = parts - 2; start = wordOf l 0 6; len = wordOf l 0 7 };
       closing = record { index = parts - 1; start = wordOf l 0 11; len = wordOf l 0 12 };
-      len = record { 0 = wordOf l 0 1 };
+      len = record { 0 = listCount l - 1 };
       kind = wordOf l 0 2;
     }
 

@@ -10,6 +10,7 @@ use Rattle.format.specs.Verdict as verdict
 use Rattle.format.specs.Word.{put}
 use Rattle.format.specs.Tables.{ownTables}
 use Rattle.format.specs.WordList.{listCount, listSized, listRules}
+use Rattle.format.specs.Holding.{holdingAll}
 use Rattle.format.specs.Writer.{present, listVerdict, packed, writerReport, workAfter, outAfter}
 use Rattle.tree.specs.Refusal.{reportAnswer}
 use Rattle.tree.specs.declared.refusal.Report.{Report}
@@ -29,16 +30,16 @@ pub record Within (parts symbols l : List ℕ) : Type 0 where
   pub mostParts : length parts / 3 ≤ 2097152
   pub mostSymbols : length symbols ≤ 1048576
 
--- … and rows 2 to 4 are, and row 5 at the root
+-- … and rows 2 to 4 are where the root is taken to hold all others, and row 5 at the root
 pub record Ruled (parts symbols l : List ℕ) : Type 0 where
   pub within : Within parts symbols l
-  pub rules : listRules l ≡ passed
+  pub rules : listRules (holdingAll l) ≡ passed
   pub root : present parts symbols l 0 ≡ true
 
 -- … and row 5 below it
 pub record Passed (parts symbols l : List ℕ) : Type 0 where
   pub within : Within parts symbols l
-  pub rows : listVerdict parts symbols l ≡ passed
+  pub rows : listVerdict parts symbols (holdingAll l) ≡ passed
 
 -- row 6 for the output, where the work words are filled
 pub record Finished (parts symbols l out : List ℕ) (r : Report) (out′ : List ℕ) : Type 0 where

@@ -6,12 +6,14 @@ use places::resolve::resolve;
 use encode::encode::encode;
 use encode::encode::encode_top_subtree;
 use tree::raw::place;
+use tree::raw::ChildrenBytes;
 use tree::raw::Descendants;
 use tree::raw::RawSubtree;
 use tree::words::raw_from_words;
 ghost use mathlib.Core.Path.{_≡_};
 ghost use Prim.Native.Nat.{_-_, _<_, _≤_};
 ghost use lib.ListN.{length, getD};
+ghost use Rattle.format.specs.Holding.{holdingAll};
 ghost use Rattle.format.specs.Word.{put};
 ghost use Rattle.format.specs.Write.{treeBytes};
 ghost use Rattle.format.specs.WordList.{wordOf, rawFrom, listCount};
@@ -69,7 +71,7 @@ pub fn put_run(
     requires { ⌜ Run (now parts) (now symbols) (now l) from stop (now opens) (now closes) (now syms) ⌝ }
     requires { ⌜ Sized (now parts) (now symbols) (now l) 0 (now work) ⌝ }
     requires { ⌜ sizeFrom (now parts) (now symbols) (now l) 0 ≤ length (now out) ⌝ }
-    ensures { λ _. ⌜ Advanced (now (parts .entry)) (now (symbols .entry)) (now (l .entry)) from stop
+    ensures { λ _. ⌜ Advanced (now (parts .entry)) (now (symbols .entry)) (holdingAll (now (l .entry))) from stop
         (now (out .entry)) (now (out .exit)) ⌝ }
 {
     let mut n = from;
@@ -102,8 +104,8 @@ fn put_from(
     requires { ⌜ (1 ≤ n) × (n < listCount (now l)) ×
         (sizeFrom (now parts) (now symbols) (now l) 0 ≤ length (now out)) ⌝ }
     ensures { λ r. ⌜ (n < r) × (r ≤ listCount (now (l .entry))) ⌝ }
-    ensures { λ r. ⌜ Advanced (now (parts .entry)) (now (symbols .entry)) (now (l .entry)) n r (now (out .entry))
-        (now (out .exit)) ⌝ }
+    ensures { λ r. ⌜ Advanced (now (parts .entry)) (now (symbols .entry)) (holdingAll (now (l .entry))) n r
+        (now (out .entry)) (now (out .exit)) ⌝ }
     ensures { λ _. ⌜ Indexed (now (parts .entry)) (now (symbols .entry)) (now («part_slots» .exit))
         (now («symbol_slots» .exit)) ⌝ }
 {
@@ -141,7 +143,7 @@ fn put_all(
         (now syms) ⌝ }
     requires { ⌜ Sized (now parts) (now symbols) (now l) 0 (now work) ⌝ }
     requires { ⌜ sizeFrom (now parts) (now symbols) (now l) 0 ≤ length (now out) ⌝ }
-    ensures { λ r. ⌜ Advanced (now (parts .entry)) (now (symbols .entry)) (now (l .entry)) 1
+    ensures { λ r. ⌜ Advanced (now (parts .entry)) (now (symbols .entry)) (holdingAll (now (l .entry))) 1
         (listCount (now (l .entry))) (now (out .entry)) (now (out .exit)) ⌝ }
 {
     let count = l.len() / 13;
@@ -163,9 +165,9 @@ fn put_all(
     }
 }
 
-// The root by its words, its parts the last two of the table.
+// The root by its words, its parts the last two of the table. It holds all others, whatever count is stored.
 fn root_of(l: &[u32], parts: usize) -> RawSubtree
-    requires { ⌜ (1 ≤ listCount (now l)) × (2 ≤ parts) × (parts ≤ 2097152) ⌝ }
+    requires { ⌜ (1 ≤ listCount (now l)) × (listCount (now l) ≤ 1048576) × (2 ≤ parts) × (parts ≤ 2097152) ⌝ }
     ensures { λ r. ⌜ r ≡ rootOf (now (l .entry)) parts ⌝ }
 {
     let opening = PackedSpan {
@@ -181,7 +183,7 @@ fn root_of(l: &[u32], parts: usize) -> RawSubtree
     RawSubtree {
         opening: opening,
         closing: closing,
-        len: Descendants(l[1]),
+        len: Descendants((l.len() / 13 - 1) as u32),
         kind: l[2],
     }
 }
@@ -191,12 +193,11 @@ pub fn put_root(l: &[u32], parts: &[u32], symbols: &[u32], work: &[u32], out: &m
     requires { ⌜ Passed (now parts) (now symbols) (now l) ⌝ }
     requires { ⌜ Sized (now parts) (now symbols) (now l) 0 (now work) ⌝ }
     requires { ⌜ sizeFrom (now parts) (now symbols) (now l) 0 ≤ length (now out) ⌝ }
-    ensures { λ _. ⌜ Advanced (now (parts .entry)) (now (symbols .entry)) (now (l .entry)) 0 1 (now (out .entry))
-        (now (out .exit)) ⌝ }
+    ensures { λ _. ⌜ Advanced (now (parts .entry)) (now (symbols .entry)) (holdingAll (now (l .entry))) 0 1
+        (now (out .entry)) (now (out .exit)) ⌝ }
 {
     let root = root_of(l, parts.len() / 3);
-    let children = children_of(l, 0, work);
-    encode_top_subtree(out, 0, root, children);
+    encode_top_subtree(out, 0, root, ChildrenBytes(work[1]));
 }
 
 // The whole output: the root, then the trees below it.
@@ -218,7 +219,7 @@ pub fn put_list(
     requires { ⌜ Sized (now parts) (now symbols) (now l) 0 (now work) ⌝ }
     requires { ⌜ sizeFrom (now parts) (now symbols) (now l) 0 ≤ length (now out) ⌝ }
     ensures { λ _. ⌜ now (out .exit) ≡ put (now (out .entry)) 0
-        (packed (now (parts .entry)) (now (symbols .entry)) (now (l .entry))) ⌝ }
+        (packed (now (parts .entry)) (now (symbols .entry)) (holdingAll (now (l .entry)))) ⌝ }
 {
     put_root(l, parts, symbols, work, out);
     put_all(

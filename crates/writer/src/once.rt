@@ -12,6 +12,7 @@ use tree::refusal::Report;
 ghost use mathlib.Core.Path.{_≡_};
 ghost use Prim.Native.Nat.{_<_, _≤_};
 ghost use lib.ListN.{length};
+ghost use Rattle.format.specs.Holding.{holdingAll};
 ghost use Rattle.format.specs.Word.{put};
 ghost use Rattle.format.specs.WordList.{listCount};
 ghost use Rattle.format.specs.Writer.{packed};
@@ -35,7 +36,7 @@ fn put_once(
     requires { ⌜ Sized (now parts) (now symbols) (now l) 0 (now work) ⌝ }
     requires { ⌜ sizeFrom (now parts) (now symbols) (now l) 0 ≤ length (now out) ⌝ }
     ensures { λ _. ⌜ now (out .exit) ≡ put (now (out .entry)) 0
-        (packed (now (parts .entry)) (now (symbols .entry)) (now (l .entry))) ⌝ }
+        (packed (now (parts .entry)) (now (symbols .entry)) (holdingAll (now (l .entry)))) ⌝ }
 {
     put_root(l, parts, symbols, work, out);
     put_run(
@@ -66,8 +67,8 @@ fn finish_once(
     requires { ⌜ Passed (now parts) (now symbols) (now l) ⌝ }
     requires { ⌜ Run (now parts) (now symbols) (now l) 1 (listCount (now l)) (now opens) (now closes) (now syms) ⌝ }
     requires { ⌜ Sized (now parts) (now symbols) (now l) 0 (now work) ⌝ }
-    ensures { λ r. ⌜ Finished (now (parts .entry)) (now (symbols .entry)) (now (l .entry)) (now (out .entry)) r
-        (now (out .exit)) ⌝ }
+    ensures { λ r. ⌜ Finished (now (parts .entry)) (now (symbols .entry)) (holdingAll (now (l .entry)))
+        (now (out .entry)) r (now (out .exit)) ⌝ }
 {
     let total = place(work[0]);
     if out.len() < total {
@@ -112,8 +113,8 @@ fn write_sized(
 ) -> Report
     requires { ⌜ Passed (now parts) (now symbols) (now l) ⌝ }
     requires { ⌜ Run (now parts) (now symbols) (now l) 1 (listCount (now l)) (now opens) (now closes) (now syms) ⌝ }
-    ensures { λ r. ⌜ Written (now (parts .entry)) (now (symbols .entry)) (now (l .entry)) (now (work .entry))
-        (now (out .entry)) r (now (work .exit)) (now (out .exit)) ⌝ }
+    ensures { λ r. ⌜ Written (now (parts .entry)) (now (symbols .entry)) (holdingAll (now (l .entry)))
+        (now (work .entry)) (now (out .entry)) r (now (work .exit)) (now (out .exit)) ⌝ }
 {
     if work.len() <= l.len() / 13 {
         return refuse(6);
@@ -135,8 +136,8 @@ fn write_run(
 ) -> Report
     requires { ⌜ Ruled (now parts) (now symbols) (now l) ⌝ }
     requires { ⌜ Run (now parts) (now symbols) (now l) 1 (listCount (now l)) (now opens) (now closes) (now syms) ⌝ }
-    ensures { λ r. ⌜ Written (now (parts .entry)) (now (symbols .entry)) (now (l .entry)) (now (work .entry))
-        (now (out .entry)) r (now (work .exit)) (now (out .exit)) ⌝ }
+    ensures { λ r. ⌜ Written (now (parts .entry)) (now (symbols .entry)) (holdingAll (now (l .entry)))
+        (now (work .entry)) (now (out .entry)) r (now (work .exit)) (now (out .exit)) ⌝ }
 {
     let count = l.len() / 13;
     let found = first_absent(l, parts, symbols, 1, count, opens, closes, syms);
@@ -163,8 +164,8 @@ pub fn write_once(
     requires { ⌜ Ready (now parts) (now symbols) (now «part_slots») (now «symbol_slots») (now opens) (now closes)
         (now syms) ⌝ }
     requires { ⌜ listCount (now l) ≤ length (now opens) ⌝ }
-    ensures { λ r. ⌜ Written (now (parts .entry)) (now (symbols .entry)) (now (l .entry)) (now (work .entry))
-        (now (out .entry)) r (now (work .exit)) (now (out .exit)) ⌝ }
+    ensures { λ r. ⌜ Written (now (parts .entry)) (now (symbols .entry)) (holdingAll (now (l .entry)))
+        (now (work .entry)) (now (out .entry)) r (now (work .exit)) (now (out .exit)) ⌝ }
 {
     resolve(
         l,

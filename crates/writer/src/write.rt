@@ -7,14 +7,18 @@ use crate::refuse::refuse;
 use crate::sizes::fill_work;
 use list::rows::list_sized;
 use list::sized::list_rules;
+use list::sized::list_rules_holding;
 use places::resolve::build;
 use tree::raw::place;
 use tree::refusal::Report;
 use tree::refusal::Verdict;
 ghost use mathlib.Core.Path.{_≡_};
+ghost use Prim.Native.Nat.{_≤_};
+ghost use lib.ListN.{getD};
+ghost use Rattle.format.specs.Holding.{holdingAll};
 ghost use Rattle.format.specs.Tables.{ownTables};
 ghost use Rattle.format.specs.Verdict.{passed};
-ghost use Rattle.format.specs.WordList.{listRules};
+ghost use Rattle.format.specs.WordList.{listCount, listRules};
 ghost use Rattle.writer.specs.Run.{Lent, Ready, Sized};
 ghost use Rattle.writer.specs.Written.{Written, Within, Ruled, Passed, Finished};
 
@@ -35,8 +39,8 @@ fn finish(
     requires { ⌜ Ready (now parts) (now symbols) (now «part_slots») (now «symbol_slots») (now opens) (now closes)
         (now syms) ⌝ }
     requires { ⌜ Sized (now parts) (now symbols) (now l) 0 (now work) ⌝ }
-    ensures { λ r. ⌜ Finished (now (parts .entry)) (now (symbols .entry)) (now (l .entry)) (now (out .entry)) r
-        (now (out .exit)) ⌝ }
+    ensures { λ r. ⌜ Finished (now (parts .entry)) (now (symbols .entry)) (holdingAll (now (l .entry)))
+        (now (out .entry)) r (now (out .exit)) ⌝ }
 {
     let total = place(work[0]);
     if out.len() < total {
@@ -73,8 +77,8 @@ fn write_passed(
     requires { ⌜ Passed (now parts) (now symbols) (now l) ⌝ }
     requires { ⌜ Ready (now parts) (now symbols) (now «part_slots») (now «symbol_slots») (now opens) (now closes)
         (now syms) ⌝ }
-    ensures { λ r. ⌜ Written (now (parts .entry)) (now (symbols .entry)) (now (l .entry)) (now (work .entry))
-        (now (out .entry)) r (now (work .exit)) (now (out .exit)) ⌝ }
+    ensures { λ r. ⌜ Written (now (parts .entry)) (now (symbols .entry)) (holdingAll (now (l .entry)))
+        (now (work .entry)) (now (out .entry)) r (now (work .exit)) (now (out .exit)) ⌝ }
 {
     if work.len() <= l.len() / 13 {
         return refuse(6);
@@ -120,8 +124,8 @@ fn write_built(
     requires { ⌜ Ruled (now parts) (now symbols) (now l) ⌝ }
     requires { ⌜ Ready (now parts) (now symbols) (now «part_slots») (now «symbol_slots») (now opens) (now closes)
         (now syms) ⌝ }
-    ensures { λ r. ⌜ Written (now (parts .entry)) (now (symbols .entry)) (now (l .entry)) (now (work .entry))
-        (now (out .entry)) r (now (work .exit)) (now (out .exit)) ⌝ }
+    ensures { λ r. ⌜ Written (now (parts .entry)) (now (symbols .entry)) (holdingAll (now (l .entry)))
+        (now (work .entry)) (now (out .entry)) r (now (work .exit)) (now (out .exit)) ⌝ }
 {
     if l.len() / 13 <= opens.len() {
         return write_once(
@@ -179,8 +183,8 @@ fn write_with(
     requires { ⌜ Ruled (now parts) (now symbols) (now l) ⌝ }
     requires { ⌜ Lent (now parts) (now symbols) (now «part_slots») (now «symbol_slots») (now opens) (now closes)
         (now syms) ⌝ }
-    ensures { λ r. ⌜ Written (now (parts .entry)) (now (symbols .entry)) (now (l .entry)) (now (work .entry))
-        (now (out .entry)) r (now (work .exit)) (now (out .exit)) ⌝ }
+    ensures { λ r. ⌜ Written (now (parts .entry)) (now (symbols .entry)) (holdingAll (now (l .entry)))
+        (now (work .entry)) (now (out .entry)) r (now (work .exit)) (now (out .exit)) ⌝ }
 {
     build(parts, symbols, part_slots, symbol_slots);
     write_built(
@@ -206,8 +210,8 @@ fn write_small(
     out: &mut [u8],
 ) -> Report
     requires { ⌜ Ruled (now parts) (now symbols) (now l) ⌝ }
-    ensures { λ r. ⌜ Written (now (parts .entry)) (now (symbols .entry)) (now (l .entry)) (now (work .entry))
-        (now (out .entry)) r (now (work .exit)) (now (out .exit)) ⌝ }
+    ensures { λ r. ⌜ Written (now (parts .entry)) (now (symbols .entry)) (holdingAll (now (l .entry)))
+        (now (work .entry)) (now (out .entry)) r (now (work .exit)) (now (out .exit)) ⌝ }
 {
     let mut part_slots = [0u32; 2048];
     let mut symbol_slots = [0u32; 2048];
@@ -237,8 +241,8 @@ fn write_large(
     out: &mut [u8],
 ) -> Report
     requires { ⌜ Ruled (now parts) (now symbols) (now l) ⌝ }
-    ensures { λ r. ⌜ Written (now (parts .entry)) (now (symbols .entry)) (now (l .entry)) (now (work .entry))
-        (now (out .entry)) r (now (work .exit)) (now (out .exit)) ⌝ }
+    ensures { λ r. ⌜ Written (now (parts .entry)) (now (symbols .entry)) (holdingAll (now (l .entry)))
+        (now (work .entry)) (now (out .entry)) r (now (work .exit)) (now (out .exit)) ⌝ }
 {
     let mut part_slots = [0u32; 65536];
     let mut symbol_slots = [0u32; 131072];
@@ -270,8 +274,8 @@ fn write_at(
     level: usize,
 ) -> Report
     requires { ⌜ Ruled (now parts) (now symbols) (now l) ⌝ }
-    ensures { λ r. ⌜ Written (now (parts .entry)) (now (symbols .entry)) (now (l .entry)) (now (work .entry))
-        (now (out .entry)) r (now (work .exit)) (now (out .exit)) ⌝ }
+    ensures { λ r. ⌜ Written (now (parts .entry)) (now (symbols .entry)) (holdingAll (now (l .entry)))
+        (now (work .entry)) (now (out .entry)) r (now (work .exit)) (now (out .exit)) ⌝ }
 {
     if level != 0 {
         return write_large(l, parts, symbols, work, out);
@@ -314,9 +318,9 @@ fn write_ruled(
     out: &mut [u8],
 ) -> Report
     requires { ⌜ Within (now parts) (now symbols) (now l) ⌝ }
-    requires { ⌜ listRules (now l) ≡ passed ⌝ }
-    ensures { λ r. ⌜ Written (now (parts .entry)) (now (symbols .entry)) (now (l .entry)) (now (work .entry))
-        (now (out .entry)) r (now (work .exit)) (now (out .exit)) ⌝ }
+    requires { ⌜ listRules (holdingAll (now l)) ≡ passed ⌝ }
+    ensures { λ r. ⌜ Written (now (parts .entry)) (now (symbols .entry)) (holdingAll (now (l .entry)))
+        (now (work .entry)) (now (out .entry)) r (now (work .exit)) (now (out .exit)) ⌝ }
 {
     if !root_present(l, parts) {
         return refuse(5);
@@ -342,6 +346,30 @@ pub fn encode_list(
         return refuse(1);
     }
     match list_rules(l) {
+        Verdict::Passed => write_ruled(l, parts, symbols, work, out),
+        Verdict::Refused(at) => Report::Refused(at),
+    }
+}
+
+// The same of a list whose root, a subtree, is taken to hold all others, whatever count it has stored.
+pub fn encode_holding(
+    l: &[u32],
+    parts: &[u32],
+    symbols: &[u32],
+    work: &mut [u32],
+    out: &mut [u8],
+) -> Report
+    requires { ⌜ (1 ≤ listCount (now l)) × (getD (now l) 0 0 ≡ 3) ⌝ }
+    ensures { λ r. ⌜ Written (now (parts .entry)) (now (symbols .entry)) (holdingAll (now (l .entry)))
+        (now (work .entry)) (now (out .entry)) r (now (work .exit)) (now (out .exit)) ⌝ }
+{
+    if !list_sized(l) {
+        return refuse(1);
+    }
+    if !tables_sized(parts, symbols) {
+        return refuse(1);
+    }
+    match list_rules_holding(l) {
         Verdict::Passed => write_ruled(l, parts, symbols, work, out),
         Verdict::Refused(at) => Report::Refused(at),
     }

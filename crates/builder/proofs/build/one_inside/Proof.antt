@@ -4,7 +4,7 @@ use Rattle.builder.proofs.build.one_inside.Statement.{statement}
 use Rattle.builder.proofs.build.one_inside.Tie as tie
 use Rattle.builder.proofs.build.one_inside.Reads as reads
 use Rattle.builder.proofs.build.one_inside.Lts as lts
-use Rattle.builder.proofs.state.is_subtree.Reads as is-subtree-reads
+use Rattle.builder.proofs.sort.is_subtree.Reads as is-subtree-reads
 
 -- src/build.rt:33:9
 returns : tie.Need-returns

@@ -5,7 +5,7 @@ use Rattle.builder.proofs.restore.reaches_past.Tie as tie
 use Rattle.builder.proofs.restore.reaches_past.Reads as reads
 use Rattle.builder.proofs.restore.reaches_past.Lts as lts
 use Rattle.builder.proofs.restore.is_among.Reads as is-among-reads
-use Rattle.builder.proofs.state.is_subtree.Reads as is-subtree-reads
+use Rattle.builder.proofs.sort.is_subtree.Reads as is-subtree-reads
 use Rattle.tree.proofs.raw.place.Reads as place-reads
 
 -- src/restore.rt:73:9

@@ -4,7 +4,7 @@ use Rattle.builder.proofs.state.disagrees.Statement.{statement}
 use Rattle.builder.proofs.state.disagrees.Tie as tie
 use Rattle.builder.proofs.state.disagrees.Reads as reads
 use Rattle.builder.proofs.state.disagrees.Lts as lts
-use Rattle.builder.proofs.state.is_subtree.Reads as is-subtree-reads
+use Rattle.builder.proofs.sort.is_subtree.Reads as is-subtree-reads
 use Rattle.builder.proofs.state.open_fit.Reads as open-fit-reads
 use Rattle.tree.proofs.raw.place.Reads as place-reads
 

@@ -4,7 +4,7 @@ use Rattle.builder.proofs.state.is_open_under.Statement.{statement}
 use Rattle.builder.proofs.state.is_open_under.Tie as tie
 use Rattle.builder.proofs.state.is_open_under.Reads as reads
 use Rattle.builder.proofs.state.is_open_under.Lts as lts
-use Rattle.builder.proofs.state.is_subtree.Reads as is-subtree-reads
+use Rattle.builder.proofs.sort.is_subtree.Reads as is-subtree-reads
 use Rattle.tree.proofs.raw.place.Reads as place-reads
 
 -- src/state.rt:50:9

@@ -3,6 +3,7 @@ use mathlib.Core.Path.{_≡_}
 use lib.ListN.{length}
 use Rattle.format.specs.WordList.{listCount}
 use Rattle.writer.specs.Run.{Ready, Kept, Advanced}
+use Rattle.format.specs.Holding.{holdingAll}
 use borrow.Author.Needs.{needs}
 use Rattle.writer.proofs.BytesReturns.{put-all-cases}
 use Rattle.writer.proofs.bytes.put_all.Statement.{statement}
@@ -13,7 +14,7 @@ use Rattle.writer.proofs.bytes.put_from.Reads as put-from-reads
 
 abbrev Inv-loop : tie.InvT-loop
 Inv-loop l parts symbols work out₀ part-slots₀ symbol-slots₀ opens₀ closes₀ syms₀ count n₀ out part-slots symbol-slots opens closes syms n =
-    (1 ≤ n) × (n ≤ listCount l) × Advanced parts symbols l 1 n out₀ out × (length out ≡ length out₀)
+    (1 ≤ n) × (n ≤ listCount l) × Advanced parts symbols (holdingAll l) 1 n out₀ out × (length out ≡ length out₀)
     × Ready parts symbols part-slots symbol-slots opens closes syms
     × Kept part-slots symbol-slots opens closes syms part-slots₀ symbol-slots₀ opens₀ closes₀ syms₀
 

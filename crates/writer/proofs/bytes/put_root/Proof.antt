@@ -6,25 +6,24 @@ use Rattle.writer.proofs.bytes.put_root.Reads as reads
 use Rattle.writer.proofs.bytes.put_root.Lts as lts
 use Rattle.encode.proofs.encode.encode_top_subtree.Reads as encode-top-subtree-reads
 use Rattle.writer.proofs.bytes.root_of.Reads as root-of-reads
-use Rattle.writer.proofs.sizes.children_of.Reads as children-of-reads
 
--- src/bytes.rt:164:9
+-- src/bytes.rt:199:9
 root-of-requires : tie.Need-root-of-requires
 root-of-requires c κs = search (needs, put-root-cases)
 
--- src/bytes.rt:165:9
-children-of-requires : tie.Need-children-of-requires
-children-of-requires c κs = search (needs, put-root-cases)
+-- src/bytes.rt:200:52
+shared-slice-read-t13 : tie.Need-shared-slice-read-t13
+shared-slice-read-t13 c = search (needs, put-root-cases)
 
--- src/bytes.rt:166:5
+-- src/bytes.rt:200:5
 encode-top-subtree-requires : tie.Need-encode-top-subtree-requires
 encode-top-subtree-requires c κs = search (needs, put-root-cases)
 
--- src/bytes.rt:158:1
+-- src/bytes.rt:192:1
 same-length : tie.Need-same-length
 same-length c = search (needs, put-root-cases)
 
--- src/bytes.rt:158:1
+-- src/bytes.rt:192:1
 returns : tie.Need-returns
 returns c = search (needs, put-root-cases)
 
@@ -33,7 +32,7 @@ put-root-spec =
     tie.close
     (tie.spec
     root-of-requires
-    children-of-requires
+    shared-slice-read-t13
     encode-top-subtree-requires
     same-length
     returns)

@@ -2,6 +2,7 @@ use Prim.Native.Nat.{_-_, _≤_}
 use mathlib.Core.Path.{_≡_}
 use lib.ListN.{length}
 use Rattle.writer.specs.Run.{Advanced}
+use Rattle.format.specs.Holding.{holdingAll}
 use borrow.Author.Needs.{needs}
 use Rattle.writer.proofs.BytesReturns.{put-run-cases}
 use Rattle.writer.proofs.bytes.put_run.Statement.{statement}
@@ -13,7 +14,7 @@ use Rattle.writer.proofs.bytes.put_at.Reads as put-at-reads
 
 abbrev Inv-loop : tie.InvT-loop
 Inv-loop l parts symbols from stop opens closes syms work out₀ n₀ out n =
-    (from ≤ n) × (n ≤ stop) × Advanced parts symbols l from n out₀ out × (length out ≡ length out₀)
+    (from ≤ n) × (n ≤ stop) × Advanced parts symbols (holdingAll l) from n out₀ out × (length out ≡ length out₀)
 
 abbrev μ-loop : tie.MeasureT-loop
 μ-loop l parts symbols from stop opens closes syms work out₀ n₀ out n =

@@ -1,9 +1,9 @@
 use borrow.Author.Needs.{needs}
 use Rattle.builder.proofs.StateReturns.{subtree-cases}
-use Rattle.builder.proofs.state.is_subtree.Statement.{statement}
-use Rattle.builder.proofs.state.is_subtree.Tie as tie
-use Rattle.builder.proofs.state.is_subtree.Reads as reads
-use Rattle.builder.proofs.state.is_subtree.Lts as lts
+use Rattle.builder.proofs.sort.is_subtree.Statement.{statement}
+use Rattle.builder.proofs.sort.is_subtree.Tie as tie
+use Rattle.builder.proofs.sort.is_subtree.Reads as reads
+use Rattle.builder.proofs.sort.is_subtree.Lts as lts
 
 -- src/state.rt:38:13
 mul-if1 : tie.Need-mul-if1

@@ -1,0 +1,16 @@
+// The sort of a tree of the lent run.
+ghost use mathlib.Core.Path.{_≡_};
+ghost use Prim.Native.Nat.{_<_};
+ghost use Rattle.format.specs.Builder.{subAt};
+ghost use Rattle.format.specs.WordList.{listCount};
+
+// Whether tree n of the run is a subtree.
+pub fn is_subtree(list: &[u32], n: usize) -> bool
+    requires { ⌜ n < listCount (now list) ⌝ }
+    ensures { λ r. ⌜ r ≡ subAt (now (list .entry)) n ⌝ }
+{
+    if list[13 * n] != 3 {
+        return false;
+    }
+    true
+}
