@@ -1,6 +1,6 @@
 -- One law for each return of the builder's functions.
 use Prim.Native.Nat.{ℕ, _<_}
-use mathlib.Core.Bool.{true, false}
+use mathlib.Core.Bool.{Bool, true, false}
 use mathlib.Core.Path.{_≡_, refl, sym, ap, _∙_, subst}
 use mathlib.Core.List.{List, [], _∷_}
 use borrow.Author.Tests.{eq-eqb, ne-eqb}
@@ -14,6 +14,7 @@ use Rattle.tree.specs.Types.{spacingOf, isRawOf, litKindOf}
 use Rattle.tree.specs.Refusal.{verdictAnswer}
 use Rattle.tree.specs.declared.refusal.Refusal.{Refusal}
 use Rattle.tree.specs.declared.refusal.Verdict.{Verdict}
+use Rattle.tree.specs.declared.refusal.Report.{Report}
 use Rattle.tree.specs.declared.types.Span.{Span}
 use Rattle.tree.specs.declared.types.Leaf.{Leaf}
 use Rattle.tree.specs.declared.types.Leaf.the-variants as leaves
@@ -24,14 +25,15 @@ use Rattle.builder.specs.State.{seen}
 use Rattle.builder.specs.Given.{wordsOf, pushed}
 use Rattle.builder.specs.Restoring.{pointAnswer}
 use Rattle.builder.specs.Taken.{Begun, Taken}
+use Rattle.builder.specs.Building.{Built, BuiltSkipping}
 use Rattle.builder.specs.declared.state.Builder.{Builder}
 use Rattle.builder.specs.declared.state.Point.{Point}
 use Rattle.builder.specs.declared.state.Stepped.{Stepped}
 use Rattle.builder.specs.declared.restore.PointTaken.{PointTaken}
 use Rattle.builder.specs.declared.restore.PointTaken.the-variants as taken
-use Rattle.export.specs.Replies.{refusedCode, verdictCode}
+use Rattle.export.specs.Replies.{refusedCode, verdictCode, reportCode}
 use Rattle.export.specs.Roots.{spanFrom}
-use Rattle.export.specs.Builders.{lent, stateList, leafFrom, StepStored, Handed, NewReplied, StepReplied, PointReplied}
+use Rattle.export.specs.Builders.{lent, stateList, leafFrom, StepStored, Handed, NewReplied, StepReplied, PointReplied, BuildReplied}
 
 pub step-stored : (s : Stepped) (r n : ℕ) → (n ≡ s .builder .count) × (n < 4294967296) → r ≡ verdictCode (s .verdict)
     → StepStored s r (n ∷ s .builder .depth ∷ []) (s .builder .opened)
@@ -108,4 +110,15 @@ module _ (n d : ℕ) (a l w : List ℕ) (q : PointTaken) (e : q ≡ pointAnswer 
   pub point-taken : (p : Point) → q ≡ taken.Point p → PointReplied (lent n d a) l w 0 (p .trees ∷ p .opened ∷ [])
   point-taken p k = record { reply = simp (← e, k); contents = simp (← e, k) }
 
-pub ruleset builder-cases = (step-stored, leaf-punct, leaf-ident, leaf-literal, new-replied, push-replied, open-replied, close-replied, restore-replied, point-refused, point-taken)
+-- ---- building
+
+module _ (n d : ℕ) (a l parts symbols work out : List ℕ) (skips : Bool) (q : Report) (r : ℕ) (work′ out′ : List ℕ) (c : r ≡ reportCode q) where
+  pub build-skips : skips ≡ true → BuiltSkipping (lent n d a) l parts symbols work out q work′ out′
+      → BuildReplied (lent n d a) skips l parts symbols work out r work′ out′
+  build-skips e h = record { reply = c ∙ rw e (ap reportCode (h .answer)); words = rw e (h .works); bytes = rw e (h .outs) }
+
+  pub build-whole : skips ≡ false → Built (lent n d a) l parts symbols work out q work′ out′
+      → BuildReplied (lent n d a) skips l parts symbols work out r work′ out′
+  build-whole e h = record { reply = c ∙ rw e (ap reportCode (h .answer)); words = rw e (h .works); bytes = rw e (h .outs) }
+
+pub ruleset builder-cases = (step-stored, leaf-punct, leaf-ident, leaf-literal, new-replied, push-replied, open-replied, close-replied, restore-replied, point-refused, point-taken, build-skips, build-whole)

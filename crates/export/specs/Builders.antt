@@ -1,14 +1,16 @@
 -- The builder's steps: the reply in one number, and what is lent then.
 use Prim.Native.Nat.{ℕ}
+use mathlib.Core.Bool.{Bool, true, false}
 use mathlib.Core.Path.{_≡_}
 use mathlib.Core.List.{List, [], _∷_}
 use lib.Dec.{eqb}
 use lib.ListN.{getD}
 use Rattle.format.specs.Test.{if_then_else_}
 use Rattle.format.specs.Verdict.{Verdict, contents}
-use Rattle.format.specs.Builder.{Step, builderStep, newVerdict, new, pointVerdict, restorePoint}
+use Rattle.format.specs.Builder.{Step, builderStep, newVerdict, new, pointVerdict, restorePoint, build, buildSkipTopSubtree}
+use Rattle.format.specs.Builder as format
 use Rattle.tree.specs.Types.{spacingOf, isRawOf, litKindOf}
-use Rattle.tree.specs.Refusal.{verdictAnswer}
+use Rattle.tree.specs.Refusal.{verdictAnswer, reportAnswer}
 use Rattle.tree.specs.declared.types.Span.{Span}
 use Rattle.tree.specs.declared.types.Leaf.{Leaf}
 use Rattle.tree.specs.declared.types.Leaf.the-variants as leaves
@@ -20,7 +22,7 @@ use Rattle.builder.specs.declared.state.Builder.{Builder}
 use Rattle.builder.specs.declared.state.Stepped.{Stepped}
 use Rattle.builder.specs.declared.restore.PointTaken.{PointTaken}
 use Rattle.builder.specs.declared.restore.PointTaken.the-variants as taken
-use Rattle.export.specs.Replies.{refusedCode, verdictCode}
+use Rattle.export.specs.Replies.{refusedCode, verdictCode, reportCode}
 use Rattle.export.specs.Roots.{spanFrom}
 
 abbrev pub lent : ℕ → ℕ → List ℕ → Builder
@@ -70,3 +72,15 @@ pointLeft w (taken.Refused r) = w
 pub record PointReplied (b : Builder) (l point : List ℕ) (r : ℕ) (point′ : List ℕ) : Type 0 where
   pub reply : r ≡ pointCode (pointAnswer (pointVerdict l (seen b)) (restorePoint l (seen b)))
   pub contents : point′ ≡ pointLeft point (pointAnswer (pointVerdict l (seen b)) (restorePoint l (seen b)))
+
+-- ---- building
+
+module _ (b : Builder) (skips : Bool) (l parts symbols work out : List ℕ) where
+  abbrev pub builtBy : Bool → format.Built
+  builtBy true = buildSkipTopSubtree parts symbols work out l (seen b)
+  builtBy false = build parts symbols work out l (seen b)
+
+  pub record BuildReplied (r : ℕ) (work′ out′ : List ℕ) : Type 0 where
+    pub reply : r ≡ reportCode (reportAnswer (builtBy skips .report))
+    pub words : work′ ≡ builtBy skips .work
+    pub bytes : out′ ≡ builtBy skips .out

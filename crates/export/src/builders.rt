@@ -1,6 +1,7 @@
 // The builder's steps: its count and depth by number, its open trees in a lent array, its list in a lent run.
 // Count and depth of the builder behind a step, refused or not, go to two words.
 use crate::replies::refused_code;
+use crate::replies::report_code;
 use crate::replies::verdict_code;
 use crate::roots::span_of;
 use builder::restore::PointTaken;
@@ -19,7 +20,8 @@ ghost use mathlib.Core.Path.{_≡_};
 ghost use Rattle.format.specs.Builder.{push, openSubtree, closeSubtree, restore};
 ghost use Rattle.builder.specs.Given.{wordsOf, pushed};
 ghost use Rattle.export.specs.Roots.{spanFrom};
-ghost use Rattle.export.specs.Builders.{lent, leafFrom, StepStored, StepReplied, NewReplied, PointReplied};
+ghost use Rattle.export.specs.Builders.{lent, leafFrom, StepStored, StepReplied, NewReplied};
+ghost use Rattle.export.specs.Builders.{PointReplied, BuildReplied};
 
 fn store_step(stepped: Stepped, next: &mut [usize; 2], opened: &mut [u32; 256]) -> u64
     ensures { λ r. ⌜ StepStored stepped r (now (next .exit)) (now (opened .exit)) ⌝ }
@@ -212,4 +214,35 @@ pub extern "C" fn tt_builder_restore(
     };
     let stepped = builder.restore(list, point);
     store_step(stepped, next, opened)
+}
+
+// The bytes of the list over given tables; `skip` leaves the root out where one subtree holds all others.
+#[no_mangle]
+pub extern "C" fn tt_builder_build(
+    list: &[u32],
+    count: u32,
+    depth: usize,
+    opened: &[u32; 256],
+    skip: bool,
+    parts: &[u32],
+    symbols: &[u32],
+    work: &mut [u32],
+    out: &mut [u8],
+) -> u64
+    ensures { λ r. ⌜ BuildReplied (lent count depth (now (opened .entry))) skip (now (list .entry))
+        (now (parts .entry)) (now (symbols .entry)) (now (work .entry)) (now (out .entry))
+        r (now (work .exit)) (now (out .exit)) ⌝ }
+{
+    let numbers = *opened;
+    let builder = Builder {
+        count: count,
+        depth: depth,
+        opened: numbers,
+    };
+    if skip {
+        let report = builder.build_skip_top_subtree(list, parts, symbols, work, out);
+        return report_code(report);
+    }
+    let report = builder.build(list, parts, symbols, work, out);
+    report_code(report)
 }
