@@ -1,20 +1,20 @@
 -- One law for each return of the functions of src/build.rt, with premises as the code's tests and calls give them.
-use Prim.Native.Nat.{ℕ, _+_, _*_, _-_, _/_, _≤_, _<_}
-use mathlib.Core.Bool.{Bool, true, false, not, _&&_}
-use mathlib.Core.Path.{_≡_, refl, sym, ap, _∙_, subst}
-use mathlib.Core.List.{List, [], _∷_, _++_}
+use Prim.Native.Nat.{ℕ, _+_, _*_, _-_, _≤_, _<_}
+use mathlib.Core.Bool.{Bool, true, false, not}
+use mathlib.Core.Path.{_≡_, sym, ap, _∙_, subst}
+use mathlib.Core.List.{List, [], _++_}
 use native.Mathlib.Omega.{arith}
 use borrow.Author.Tests.{le-leb, lt-leb, eq-eqb, ne-eqb, not-true, not-false, eqb-true}
-use lib.Dec.{leb, eqb}
+use lib.Dec.{eqb}
 use lib.ListN.{length, getD, take, drop}
 use lib.Seq.{length-take-le, getD-take, take-add, drop-at}
 use Rattle.format.specs.Test.{if_then_else_}
-use Rattle.format.specs.Verdict.{Verdict, passed, refused, rule}
-use Rattle.format.specs.WordList.{wordOf, listCount}
+use Rattle.format.specs.Verdict.{passed, refused}
+use Rattle.format.specs.WordList.{listCount}
 use Rattle.format.specs.Holding.{holdingAll}
-use Rattle.format.specs.Builder.{subAt, disagrees, ready, oneInside, buildList, innerList, skipList, written, ifReady, build, buildSkipTopSubtree}
+use Rattle.format.specs.Builder.{subAt, disagrees, ready, oneInside, buildList, innerList, written, build, buildSkipTopSubtree}
 use Rattle.format.specs.Builder as format
-use Rattle.format.proofs.Each.{and-left, and-right, rule-passed}
+use Rattle.format.proofs.Each.{and-left, rule-passed}
 use Rattle.format.proofs.Holding.{build-holds}
 use Rattle.format.proofs.BuilderRestore.{Agrees, agrees-is}
 use Rattle.tree.specs.Refusal.{verdictAnswer, reportAnswer}

@@ -1,7 +1,7 @@
 // `build` and `build_skip_top_subtree`: none may be open; then the writer over the trees made so far.
+use crate::sort::is_subtree;
 use crate::state::Builder;
 use crate::state::disagrees;
-use crate::sort::is_subtree;
 use crate::steps::refused;
 use tree::raw::place;
 use tree::refusal::Report;

@@ -1,9 +1,9 @@
 // Restore points: `restore_point` and `restore`. Neither writes into the run.
+use crate::sort::is_subtree;
 use crate::state::Builder;
 use crate::state::Point;
 use crate::state::Stepped;
 use crate::state::disagrees;
-use crate::sort::is_subtree;
 use crate::steps::refused;
 use tree::raw::place;
 use tree::refusal::Refusal;

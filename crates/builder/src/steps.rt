@@ -16,7 +16,7 @@ use tree::types::Span;
 use tree::types::TokenTree;
 use tree::words::tree_words;
 ghost use mathlib.Core.Path.{_≡_};
-ghost use Prim.Native.Nat.{_≤_, _<_};
+ghost use Prim.Native.Nat.{_<_};
 ghost use Rattle.format.specs.Verdict.{refused};
 ghost use Rattle.format.specs.Builder.{push, openSubtree, closeSubtree};
 ghost use Rattle.format.specs.Builder.{newVerdict, room, pushVerdict, openVerdict, closeVerdict};

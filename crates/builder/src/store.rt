@@ -1,12 +1,10 @@
 // Stores into the lent run.
 use tree::types::Span;
 ghost use mathlib.Core.Path.{_≡_};
-ghost use Prim.Native.Nat.{_+_, _*_, _-_, _≤_, _<_};
+ghost use Prim.Native.Nat.{_+_, _*_, _≤_, _<_};
 ghost use lib.ListN.{length};
 ghost use Rattle.format.specs.Word.{put};
 ghost use Rattle.format.specs.WordList.{listCount};
-ghost use Rattle.format.specs.Root.{fiveWords};
-ghost use Rattle.format.specs.Builder.{closeTree};
 ghost use Rattle.builder.specs.Given.{wordsOf};
 ghost use Rattle.builder.specs.State.{closedAt};
 

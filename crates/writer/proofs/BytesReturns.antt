@@ -17,7 +17,7 @@ use Rattle.format.specs.Write.{treeBytes}
 use Rattle.format.specs.WordList.{wordOf, rawFrom, listCount}
 use Rattle.format.specs.Writer.{rawOf, packed}
 use Rattle.format.specs.Holding.{holdingAll}
-use Rattle.format.proofs.Holding.{holding-root, holding-other, holding-count}
+use Rattle.format.proofs.Holding.{holding-root, holding-other}
 use Rattle.format.proofs.Each.{true-false}
 use Rattle.pack.specs.Answer.{spanOf}
 use Rattle.pack.specs.declared.Packed.{Packed}

@@ -7,9 +7,9 @@ use native.Mathlib.Omega.{arith}
 use lib.Dec.{eqb}
 use lib.ListN.{length, getD}
 use Rattle.format.specs.Test.{if_then_else_}
-use Rattle.format.specs.Tree.{Raw, isSubtree, countOf}
+use Rattle.format.specs.Tree.{isSubtree, countOf}
 use Rattle.format.specs.Fields.{fields}
-use Rattle.format.specs.Write.{treeBytes, suffixes}
+use Rattle.format.specs.Write.{suffixes}
 use Rattle.format.specs.WordList.{wordOf, rawFrom, listCount}
 use Rattle.format.specs.Writer.{rawOf, raws}
 use Rattle.format.specs.Holding.{holdingAll}

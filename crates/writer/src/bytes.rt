@@ -1,14 +1,14 @@
 // The bytes of a list that rows 1 to 5 pass, tree after tree, into an output that holds them.
 use crate::five::run_end;
 use crate::sizes::children_of;
-use pack::span::PackedSpan;
-use places::resolve::resolve;
 use encode::encode::encode;
 use encode::encode::encode_top_subtree;
-use tree::raw::place;
+use pack::span::PackedSpan;
+use places::resolve::resolve;
 use tree::raw::ChildrenBytes;
 use tree::raw::Descendants;
 use tree::raw::RawSubtree;
+use tree::raw::place;
 use tree::words::raw_from_words;
 ghost use mathlib.Core.Path.{_≡_};
 ghost use Prim.Native.Nat.{_-_, _<_, _≤_};
