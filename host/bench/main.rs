@@ -3,10 +3,13 @@
 mod proved;
 #[path = "../compare/random.rs"]
 mod random;
+#[path = "../compare/steps.rs"]
+mod steps;
 #[path = "../compare/words.rs"]
 mod words;
 
 mod buffers;
+mod builders;
 mod list;
 mod lists;
 mod timing;
@@ -21,4 +24,5 @@ fn main() {
     lists::run();
     buffers::run();
     walks::run();
+    builders::run();
 }

@@ -1,6 +1,7 @@
 //! The proved functions beside the unmodified source and, where that has no answer, beside a plain second implementation.
 mod buffers;
 mod builders;
+mod builders_random;
 mod cursors;
 mod lists;
 mod machine;
@@ -14,6 +15,7 @@ mod random;
 mod roots;
 mod source_builder;
 mod stack;
+mod steps;
 mod tally;
 mod tree;
 mod walks;
@@ -40,10 +42,10 @@ fn main() {
         ("cursors", &|t| cursors::run(t, 40_000 * many)),
         ("lists of calls beside the plain machine", &|t| machine::run(t, 40_000 * many)),
         ("roots rewritten", &|t| roots::run(t, 40_000 * many)),
-        ("builders, every script of up to 6 steps", &|t| builders::every_script(t, 6)),
-        ("builders, random scripts", &|t| builders::random_scripts(t, 100_000 * many)),
-        ("builders, invented", &|t| builders::invented_builders(t, 100_000 * many)),
-        ("builders at their limits", &|t| builders::limits(t)),
+        ("builders, every script of few steps", &|t| builders::every_script(t, if many < 10 { 6 } else { 7 })),
+        ("builders, random scripts", &|t| builders_random::scripts(t, 100_000 * many)),
+        ("builders, invented", &|t| builders_random::invented_builders(t, 100_000 * many)),
+        ("builders at their limits", &|t| builders_random::limits(t)),
     ];
     let mut failed = false;
     for (what, run) in parts.into_iter().filter(|(what, _)| what.contains(&word)) {

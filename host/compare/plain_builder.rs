@@ -1,17 +1,7 @@
 //! The scope paper's builder, a second time, without regard to speed.
 use crate::plain_list::{Refusal, TREES};
 use crate::proved::Builder;
-
-pub type Span = [u32; 5];
-
-#[derive(Clone, Copy, Debug)]
-pub enum Step {
-    /// Sort, four numbers, span, as the proved function takes a leaf.
-    Push([u32; 10]),
-    Open(u32, Span),
-    Close(Span),
-    Restore([u32; 2]),
-}
+use crate::steps::Step;
 
 fn fits(span: &[u32]) -> bool {
     span[3].checked_add(span[4]).is_some()

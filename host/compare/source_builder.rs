@@ -1,7 +1,8 @@
 //! The source's builder, followed step by step, and the classes of differences from it (docs/DIFFERENCES.md, 1 to 3).
-use crate::plain_builder::{Step, leaf_words, reaches_past};
+use crate::plain_builder::{leaf_words, reaches_past};
 use crate::plain_list::Refusal;
 use crate::proved::Builder;
+use crate::steps::Step;
 use crate::tally::caught;
 use crate::words;
 use std::collections::{BTreeMap, HashMap};
@@ -32,7 +33,7 @@ impl Classes {
 
     pub fn print(&self) {
         for (class, (times, _, script)) in &self.0 {
-            println!("  {class}: {times} times; smallest: {script}");
+            println!("  {class}: {times} times; first, of the shortest: {script}");
         }
     }
 }
