@@ -120,6 +120,8 @@ pub fn scripts(tally: &mut Tally, many: u64) {
         }
     });
     run.classes.print();
+    let [passed, refused, lawful] = ["restore 0", "restore 11", "restore law"].map(|sort| run.tally.times(sort));
+    println!("  restores: {passed} pass, {refused} are 11; to {lawful} points the restore law applies");
     run.tally.assert_answered(&["new 2", "new 6", "push 2", "push 6", "open 2", "open 6", "close 10", "close 2"], many / 100);
     run.tally.assert_answered(&["restore 0", "restore 11", "restore law", "build 0", "build 5", "build_skip 0"], many / 100);
 }

@@ -18,8 +18,12 @@ impl Tally {
     /// Each of these sorts of answer was given often, so that none goes untried.
     pub fn assert_answered(&self, sorts: &[&str], often: u64) {
         for &sort in sorts {
-            assert!(self.answers.get(sort).is_some_and(|&n| n >= often), "{sort} of {:?}", self.answers);
+            assert!(self.times(sort) >= often, "{sort} of {:?}", self.answers);
         }
+    }
+
+    pub fn times(&self, sort: &str) -> u64 {
+        self.answers.get(sort).copied().unwrap_or_default()
     }
 
     pub fn case(&mut self, same: bool, what: impl FnOnce() -> String) {
