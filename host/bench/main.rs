@@ -3,10 +3,13 @@
 mod proved;
 #[path = "../compare/random.rs"]
 mod random;
+#[path = "../compare/steps.rs"]
+mod steps;
 #[path = "../compare/words.rs"]
 mod words;
 
 mod buffers;
+mod builders;
 mod list;
 mod lists;
 mod timing;
@@ -20,4 +23,5 @@ fn main() {
     tree::trees();
     lists::run();
     walks::run();
+    builders::run();
 }

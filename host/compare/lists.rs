@@ -1,6 +1,6 @@
 //! Whole lists: tables and writing, on random lists that reach every form and boundary, and on damaged ones.
 use crate::maker::Maker;
-use crate::plain_list::{self, Refusal};
+use crate::plain_list::{self, Refusal, Written};
 use crate::proved;
 use crate::random::Random;
 use crate::tally::Tally;
@@ -12,13 +12,19 @@ use tt::TopSubtree;
 /// The proved writer's reply, work words and output against the plain one's, with room to spare, none to spare and too little.
 pub fn written_alike(r: &mut Random, list: &[u32], parts: &[u32], symbols: &[u32]) -> bool {
     let want = plain_list::write(list, parts, symbols);
-    let k = list.len() / 13;
+    rooms_alike(r, list.len() / 13, &want, |work, out| proved::encode_list(list, parts, symbols, work, out))
+}
+
+/// What is wanted of a list of k trees, in each of the rooms.
+pub fn rooms_alike(
+    r: &mut Random, k: usize, want: &Result<Written, Refusal>, mut write: impl FnMut(&mut [u32], &mut [u8]) -> Result<u64, Refusal>,
+) -> bool {
     let size = want.as_ref().map_or(40 * k, |w| w.bytes.len());
     let rooms = [(k + 1, size), (k + 1 + r.below(4) as usize, size + r.below(40) as usize), (k, size), (k + 1, size - size.min(1)), (0, 0)];
     rooms.into_iter().all(|(work_room, out_room)| {
         let (mut work, mut out) = (vec![0xAAAA; work_room], vec![0xAA; out_room]);
         let (mut want_work, mut want_out) = (work.clone(), out.clone());
-        let expected: Result<u64, Refusal> = match &want {
+        let expected: Result<u64, Refusal> = match want {
             Err(refusal) => Err(*refusal),
             Ok(_) if work_room < k + 1 => Err((6, 0)),
             Ok(w) => {
@@ -31,8 +37,7 @@ pub fn written_alike(r: &mut Random, list: &[u32], parts: &[u32], symbols: &[u32
                 }
             }
         };
-        let got = proved::encode_list(list, parts, symbols, &mut work, &mut out);
-        got == expected && work == want_work && out == want_out
+        write(&mut work, &mut out) == expected && work == want_work && out == want_out
     })
 }
 

@@ -1,5 +1,7 @@
 //! The proved functions beside the unmodified source and, where that has no answer, beside a plain second implementation.
 mod buffers;
+mod builders;
+mod builders_random;
 mod cursors;
 mod lists;
 mod machine;
@@ -7,11 +9,14 @@ mod maker;
 mod pack;
 mod plain;
 mod plain_buffer;
+mod plain_builder;
 mod plain_list;
 mod proved;
 mod random;
 mod roots;
+mod source_builder;
 mod stack;
+mod steps;
 mod tally;
 mod tree;
 mod walks;
@@ -21,7 +26,9 @@ use tally::Tally;
 
 fn main() {
     let many: u64 = std::env::args().nth(1).map_or(1, |x| x.parse().expect("how many times the usual number"));
-    let parts: [(&str, &dyn Fn(&mut Tally)); 14] = [
+    // all parts are run, unless a word is given that their names must hold
+    let word = std::env::args().nth(2).unwrap_or_default();
+    let parts: [(&str, &dyn Fn(&mut Tally)); 18] = [
         ("spans and symbols written", &|t| pack::write(t)),
         ("spans and symbols read", &|t| pack::read(t)),
         ("trees written", &|t| tree::write(t, 1_000_000 * many)),
@@ -36,9 +43,13 @@ fn main() {
         ("cursors", &|t| cursors::run(t, 40_000 * many)),
         ("lists of calls beside the plain machine", &|t| machine::run(t, 40_000 * many)),
         ("roots rewritten", &|t| roots::run(t, 40_000 * many)),
+        ("builders, every script of few steps", &|t| builders::every_script(t, if many < 10 { 6 } else { 7 })),
+        ("builders, random scripts", &|t| builders_random::scripts(t, 100_000 * many)),
+        ("builders, invented", &|t| builders_random::invented_builders(t, 100_000 * many)),
+        ("builders at their limits", &|t| builders_random::limits(t)),
     ];
     let mut failed = false;
-    for (what, run) in parts {
+    for (what, run) in parts.into_iter().filter(|(what, _)| what.contains(&word)) {
         let mut tally = Tally::default();
         run(&mut tally);
         println!("{what}: {} cases, {} differences", tally.cases, tally.differences);

@@ -260,3 +260,114 @@ pub fn set_spans(bytes: &mut [u8], trees: u32, parts: &mut [u32], symbols: &[u32
     };
     list_reply(reply).map(|_| ())
 }
+
+// ---- the builder
+
+/// Declares a foreign function and its safe form at once: a slice goes over as address and length, an array as its address.
+macro_rules! foreign {
+    ($(#[$doc:meta])* $name:ident = $c:ident($($params:tt)*)) => {
+        foreign!(@ [$(#[$doc])*] $name $c [] [] [] $($params)*);
+    };
+    (@ $doc:tt $name:ident $c:ident [$($safe:tt)*] [$($raw:tt)*] [$($arg:tt)*] $p:ident: &mut [$t:ty], $($rest:tt)*) => {
+        foreign!(@ $doc $name $c [$($safe)* $p: &mut [$t],] [$($raw)* _: *mut $t, _: usize,] [$($arg)* $p.as_mut_ptr(), $p.len(),] $($rest)*);
+    };
+    (@ $doc:tt $name:ident $c:ident [$($safe:tt)*] [$($raw:tt)*] [$($arg:tt)*] $p:ident: &[$t:ty], $($rest:tt)*) => {
+        foreign!(@ $doc $name $c [$($safe)* $p: &[$t],] [$($raw)* _: *const $t, _: usize,] [$($arg)* $p.as_ptr(), $p.len(),] $($rest)*);
+    };
+    (@ $doc:tt $name:ident $c:ident [$($safe:tt)*] [$($raw:tt)*] [$($arg:tt)*] $p:ident: &mut [$t:ty; $n:literal], $($rest:tt)*) => {
+        foreign!(@ $doc $name $c [$($safe)* $p: &mut [$t; $n],] [$($raw)* _: *mut $t,] [$($arg)* $p.as_mut_ptr(),] $($rest)*);
+    };
+    (@ $doc:tt $name:ident $c:ident [$($safe:tt)*] [$($raw:tt)*] [$($arg:tt)*] $p:ident: &[$t:ty; $n:literal], $($rest:tt)*) => {
+        foreign!(@ $doc $name $c [$($safe)* $p: &[$t; $n],] [$($raw)* _: *const $t,] [$($arg)* $p.as_ptr(),] $($rest)*);
+    };
+    (@ $doc:tt $name:ident $c:ident [$($safe:tt)*] [$($raw:tt)*] [$($arg:tt)*] $p:ident: $t:ty, $($rest:tt)*) => {
+        foreign!(@ $doc $name $c [$($safe)* $p: $t,] [$($raw)* _: $t,] [$($arg)* $p,] $($rest)*);
+    };
+    (@ [$($doc:tt)*] $name:ident $c:ident [$($safe:tt)*] [$($raw:tt)*] [$($arg:tt)*]) => {
+        $($doc)*
+        #[inline]
+        fn $name($($safe)*) -> Result<u64, (u64, u64)> {
+            unsafe extern "C" {
+                fn $c($($raw)*) -> u64;
+            }
+            list_reply(unsafe { $c($($arg)*) })
+        }
+    };
+}
+
+foreign!(builder_new = tt_builder_new(list: &mut [u32], kind: u32, spans: &[u32; 10], next: &mut [usize; 2], opened: &mut [u32; 256],));
+foreign!(builder_push = tt_builder_push(
+    list: &mut [u32], count: u32, depth: usize, leaf: &[u32; 10], next: &mut [usize; 2], opened: &mut [u32; 256],
+));
+foreign!(builder_open = tt_builder_open(
+    list: &mut [u32], count: u32, depth: usize, kind: u32, span: &[u32; 5], next: &mut [usize; 2], opened: &mut [u32; 256],
+));
+foreign!(builder_close = tt_builder_close(
+    list: &mut [u32], count: u32, depth: usize, span: &[u32; 5], next: &mut [usize; 2], opened: &mut [u32; 256],
+));
+foreign!(builder_point = tt_builder_point(list: &[u32], count: u32, depth: usize, opened: &[u32; 256], point: &mut [u32; 2],));
+foreign!(builder_restore = tt_builder_restore(
+    list: &[u32], count: u32, depth: usize, trees: u32, opens: u32, next: &mut [usize; 2], opened: &mut [u32; 256],
+));
+foreign!(builder_build = tt_builder_build(
+    list: &[u32], count: u32, depth: usize, opened: &[u32; 256], skip: bool,
+    parts: &[u32], symbols: &[u32], work: &mut [u32], out: &mut [u8],
+));
+
+/// Entries from `depth` on mean nothing.
+#[derive(Clone, PartialEq, Eq)]
+pub struct Builder {
+    pub count: u32,
+    pub depth: usize,
+    pub opened: [u32; 256],
+}
+
+impl Builder {
+    /// Count and depth come back in two words, refused or not.
+    #[inline]
+    fn step(&mut self, call: impl FnOnce(u32, usize, &mut [usize; 2], &mut [u32; 256]) -> Result<u64, (u64, u64)>) -> Result<(), (u64, u64)> {
+        let mut next = [usize::MAX; 2];
+        let reply = call(self.count, self.depth, &mut next, &mut self.opened);
+        (self.count, self.depth) = (next[0] as u32, next[1]);
+        reply.map(|_| ())
+    }
+
+    /// The five words of the root's opening span, then those of the closing one.
+    pub fn new(list: &mut [u32], kind: u32, spans: &[u32; 10]) -> (Result<(), (u64, u64)>, Builder) {
+        let mut b = Builder { count: u32::MAX, depth: usize::MAX, opened: [u32::MAX; 256] };
+        let reply = b.step(|_, _, next, opened| builder_new(list, kind, spans, next, opened));
+        (reply, b)
+    }
+
+    /// Sort, four numbers, span.
+    #[inline]
+    pub fn push(&mut self, list: &mut [u32], leaf: &[u32; 10]) -> Result<(), (u64, u64)> {
+        self.step(|count, depth, next, opened| builder_push(list, count, depth, leaf, next, opened))
+    }
+
+    #[inline]
+    pub fn open(&mut self, list: &mut [u32], kind: u32, span: &[u32; 5]) -> Result<(), (u64, u64)> {
+        self.step(|count, depth, next, opened| builder_open(list, count, depth, kind, span, next, opened))
+    }
+
+    #[inline]
+    pub fn close(&mut self, list: &mut [u32], span: &[u32; 5]) -> Result<(), (u64, u64)> {
+        self.step(|count, depth, next, opened| builder_close(list, count, depth, span, next, opened))
+    }
+
+    /// So many trees, so many of them open.
+    pub fn point(&self, list: &[u32]) -> Result<[u32; 2], (u64, u64)> {
+        let mut point = [u32::MAX; 2];
+        let reply = builder_point(list, self.count, self.depth, &self.opened, &mut point);
+        assert!(reply.is_ok() || point == [u32::MAX; 2]);
+        reply.map(|_| point)
+    }
+
+    pub fn restore(&mut self, list: &[u32], point: [u32; 2]) -> Result<(), (u64, u64)> {
+        self.step(|count, depth, next, opened| builder_restore(list, count, depth, point[0], point[1], next, opened))
+    }
+
+    pub fn build(&self, list: &[u32], skip: bool, parts: &[u32], symbols: &[u32], work: &mut [u32], out: &mut [u8]) -> Result<u64, (u64, u64)> {
+        builder_build(list, self.count, self.depth, &self.opened, skip, parts, symbols, work, out)
+    }
+}

@@ -1,6 +1,7 @@
 //! Every public function on a thread with a stack of 1 MB, with the largest inputs.
 use crate::plain_list;
-use crate::proved::{self, Lent, Stack};
+use crate::proved::{self, Builder, Lent, Stack};
+use crate::steps::{Step, steps_of, take};
 use crate::tally::Tally;
 
 const STACK: usize = 1 << 20;
@@ -33,7 +34,9 @@ fn lists(tally: &mut Tally, what: &str, list: &[u32]) {
         let want = plain_list::write(list, &parts, &symbols).unwrap_or_else(|r| panic!("{r:?}"));
         let (mut work, mut out) = (vec![0; want.work.len()], vec![0; want.bytes.len()]);
         let wrote = proved::encode_list(list, &parts, &symbols, &mut work, &mut out) == Ok(out.len() as u64);
-        tables && wrote && work == want.work && out == want.bytes && read_alike(&out, (list.len() / 13) as u32, &parts, &symbols)
+        let written = tables && wrote && work == want.work && out == want.bytes;
+        let read = written && read_alike(&out, (list.len() / 13) as u32, &parts, &symbols) && one_tree(&out, list, &parts, &symbols);
+        read && built_alike(list, &parts, &symbols, &mut work, &out)
     });
     tally.case(same, || what.to_string());
 }
@@ -50,6 +53,36 @@ fn read_alike(bytes: &[u8], trees: u32, parts: &[u32], symbols: &[u32]) -> bool 
     let spans = proved::set_spans(&mut copy, trees, &mut copied_parts, symbols, &[1; 10]);
     let checked = proved::check_buffer(&copy, trees, &copied_parts, symbols);
     last == Ok(1) && steps == [Ok(1); 2] && calls == [Ok(3); 2] && (kind, spans, checked) == (Ok(()), Ok(()), Ok(()))
+}
+
+/// The list made step by step, a point taken, passed and restored, then built in both ways.
+fn built_alike(list: &[u32], parts: &[u32], symbols: &[u32], work: &mut [u32], bytes: &[u8]) -> bool {
+    let mut run = vec![7; list.len() + 13];
+    let (begun, mut b) = Builder::new(&mut run, list[2], list[3..13].try_into().unwrap());
+    let stepped = steps_of(list).iter().all(|step| take(&mut b, &mut run, step).is_ok());
+    let same = stepped && run[2..list.len()] == list[2..];
+    let point = b.point(&run).unwrap();
+    let more = b.count as usize == plain_list::TREES || take(&mut b, &mut run, &Step::Push([0; 10])).is_ok();
+    let back = b.restore(&run, point) == Ok(()) && [b.count, b.depth as u32] == point;
+    let (mut out, mut inner) = (vec![0; bytes.len()], vec![0; bytes.len()]);
+    let built = b.build(&run, false, parts, symbols, work, &mut out) == Ok(bytes.len() as u64);
+    let skipped = b.build(&run, true, parts, symbols, work, &mut inner).is_ok();
+    begun == Ok(()) && same && more && back && built && out == bytes && (skipped || b.count > 1)
+}
+
+/// One tree's functions: the root read and written again, its spans, a symbol.
+fn one_tree(bytes: &[u8], list: &[u32], parts: &[u32], symbols: &[u32]) -> bool {
+    let (mut w, mut out) = ([0; 14], [0; 40]);
+    let read = proved::decode_tree(bytes, parts, symbols, 0, 0, &mut w) == Ok(33) && w[..13] == list[..13];
+    let (mut span, mut symbol) = ([0; 4], [0; 2]);
+    let opening = proved::decode_span(bytes, 0, &mut span) == Ok(12);
+    let spans = opening && proved::encode_span(&mut out, 0, [span[0], span[1], span[2]], 0, true) == Ok(12);
+    let part = parts.len() as u32 / 3;
+    let (open, close) = ([part - 2, list[6], list[7]], [part - 1, list[11], list[12]]);
+    let root = proved::encode_root(&mut out, 0, open, close, list[1], list[2], w[13]) == Ok(33) && out[..33] == bytes[..33];
+    let coded = proved::encode_symbol(&mut out, 0, 1, 8192) == Ok(4) && proved::decode_symbol(&out, 0, &mut symbol) == Ok(4) && symbol == [8192, 1];
+    let tree: &[u32; 13] = list[list.len() - 13..].try_into().unwrap();
+    read && spans && root && coded && proved::encode_tree(&mut out, 0, tree, [1 << 20, 1 << 20, 1 << 20], 0).is_ok()
 }
 
 /// 256 subtrees, each in the one before.

@@ -18,8 +18,12 @@ impl Tally {
     /// Each of these sorts of answer was given often, so that none goes untried.
     pub fn assert_answered(&self, sorts: &[&str], often: u64) {
         for &sort in sorts {
-            assert!(self.answers.get(sort).is_some_and(|&n| n >= often), "{sort} of {:?}", self.answers);
+            assert!(self.times(sort) >= often, "{sort} of {:?}", self.answers);
         }
+    }
+
+    pub fn times(&self, sort: &str) -> u64 {
+        self.answers.get(sort).copied().unwrap_or_default()
     }
 
     pub fn case(&mut self, same: bool, what: impl FnOnce() -> String) {
@@ -33,11 +37,21 @@ impl Tally {
     }
 }
 
-/// Whether the source gives up. Its panic is an answer here: nothing is printed.
-pub fn panics<T>(f: impl FnOnce() -> T) -> bool {
+/// The source's panics are answers here: nothing is printed while f runs.
+pub fn silent<T>(f: impl FnOnce() -> T) -> T {
     let hook = take_hook();
     set_hook(Box::new(|_| {}));
-    let gave_up = catch_unwind(AssertUnwindSafe(f)).is_err();
+    let result = f();
     set_hook(hook);
-    gave_up
+    result
+}
+
+/// Nothing, if the source gives up.
+pub fn caught<T>(f: impl FnOnce() -> T) -> Option<T> {
+    catch_unwind(AssertUnwindSafe(f)).ok()
+}
+
+/// Whether the source gives up.
+pub fn panics<T>(f: impl FnOnce() -> T) -> bool {
+    silent(|| caught(f).is_none())
 }

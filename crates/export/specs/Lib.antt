@@ -4,3 +4,4 @@ pub mod Lists
 pub mod Steps
 pub mod Roots
 pub mod Cursors
+pub mod Builders

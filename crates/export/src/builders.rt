@@ -1,0 +1,248 @@
+// The builder's steps: its count and depth by number, its open trees in a lent array, its list in a lent run.
+// Count and depth of the builder behind a step, refused or not, go to two words.
+use crate::replies::refused_code;
+use crate::replies::report_code;
+use crate::replies::verdict_code;
+use crate::roots::span_of;
+use builder::restore::PointTaken;
+use builder::state::Builder;
+use builder::state::Point;
+use builder::state::Stepped;
+use tree::kinds::is_raw_from;
+use tree::kinds::lit_kind_from;
+use tree::kinds::spacing_from;
+use tree::raw::place as wide;
+use tree::types::Ident;
+use tree::types::Leaf;
+use tree::types::Literal;
+use tree::types::Punct;
+ghost use mathlib.Core.Path.{_≡_};
+ghost use Rattle.format.specs.Builder.{push, openSubtree, closeSubtree, restore};
+ghost use Rattle.builder.specs.Given.{wordsOf, pushed};
+ghost use Rattle.export.specs.Roots.{spanFrom};
+ghost use Rattle.export.specs.Builders.{lent, leafFrom, StepStored, StepReplied, NewReplied};
+ghost use Rattle.export.specs.Builders.{PointReplied, BuildReplied};
+
+fn store_step(stepped: Stepped, next: &mut [usize; 2], opened: &mut [u32; 256]) -> u64
+    ensures { λ r. ⌜ StepStored stepped r (now (next .exit)) (now (opened .exit)) ⌝ }
+{
+    let verdict = stepped.verdict;
+    let builder = stepped.builder;
+    let numbers = builder.opened;
+    *opened = numbers;
+    let count = wide(builder.count);
+    let state = [count, builder.depth];
+    *next = state;
+    verdict_code(verdict)
+}
+
+// Five words of the root's opening span, then five of its closing one.
+#[no_mangle]
+pub extern "C" fn tt_builder_new(
+    list: &mut [u32],
+    kind: u32,
+    spans: &[u32; 10],
+    next: &mut [usize; 2],
+    opened: &mut [u32; 256],
+) -> u64
+    ensures { λ r. ⌜ NewReplied kind (spanFrom (now (spans .entry)) 0) (spanFrom (now (spans .entry)) 5)
+        (now (list .entry)) r (now (next .exit)) (now (opened .exit)) (now (list .exit)) ⌝ }
+{
+    let opening = span_of(spans[0], spans[1], spans[2], spans[3], spans[4]);
+    let closing = span_of(spans[5], spans[6], spans[7], spans[8], spans[9]);
+    let stepped = Builder::new(list, kind, opening, closing);
+    store_step(stepped, next, opened)
+}
+
+// Sort, four numbers, five words of the span. The numbers: character, spacing; symbol, raw;
+// symbol, kind, raw count, suffix length. Other sorts than 0 and 1 are literals.
+fn leaf_of(w: &[u32; 10]) -> Leaf
+    ensures { λ r. ⌜ r ≡ leafFrom (now (w .entry)) ⌝ }
+{
+    let span = span_of(w[5], w[6], w[7], w[8], w[9]);
+    let sort = w[0];
+    let first = w[1];
+    let second = w[2];
+    if sort == 0 {
+        return Leaf::Punct(Punct {
+            char: first,
+            spacing: spacing_from(second),
+            span: span,
+        });
+    }
+    if sort == 1 {
+        return Leaf::Ident(Ident {
+            sym: first,
+            span: span,
+            is_raw: is_raw_from(second),
+        });
+    }
+    let raw_count = w[3];
+    let suffix_len = w[4];
+    Leaf::Literal(Literal {
+        text_and_suffix: first,
+        span: span,
+        kind: lit_kind_from(second, raw_count),
+        suffix_len: suffix_len,
+    })
+}
+
+#[no_mangle]
+pub extern "C" fn tt_builder_push(
+    list: &mut [u32],
+    count: u32,
+    depth: usize,
+    leaf: &[u32; 10],
+    next: &mut [usize; 2],
+    opened: &mut [u32; 256],
+) -> u64
+    ensures { λ r. ⌜ StepReplied (push (pushed (leafFrom (now (leaf .entry)))))
+        (lent count depth (now (opened .entry))) (now (list .entry))
+        r (now (next .exit)) (now (opened .exit)) (now (list .exit)) ⌝ }
+{
+    let numbers = *opened;
+    let builder = Builder {
+        count: count,
+        depth: depth,
+        opened: numbers,
+    };
+    let tree = leaf_of(leaf);
+    let stepped = builder.push(list, tree);
+    store_step(stepped, next, opened)
+}
+
+#[no_mangle]
+pub extern "C" fn tt_builder_open(
+    list: &mut [u32],
+    count: u32,
+    depth: usize,
+    kind: u32,
+    span: &[u32; 5],
+    next: &mut [usize; 2],
+    opened: &mut [u32; 256],
+) -> u64
+    ensures { λ r. ⌜ StepReplied (openSubtree kind (wordsOf (spanFrom (now (span .entry)) 0)))
+        (lent count depth (now (opened .entry))) (now (list .entry))
+        r (now (next .exit)) (now (opened .exit)) (now (list .exit)) ⌝ }
+{
+    let numbers = *opened;
+    let builder = Builder {
+        count: count,
+        depth: depth,
+        opened: numbers,
+    };
+    let opening = span_of(span[0], span[1], span[2], span[3], span[4]);
+    let stepped = builder.open(list, kind, opening);
+    store_step(stepped, next, opened)
+}
+
+#[no_mangle]
+pub extern "C" fn tt_builder_close(
+    list: &mut [u32],
+    count: u32,
+    depth: usize,
+    span: &[u32; 5],
+    next: &mut [usize; 2],
+    opened: &mut [u32; 256],
+) -> u64
+    ensures { λ r. ⌜ StepReplied (closeSubtree (wordsOf (spanFrom (now (span .entry)) 0)))
+        (lent count depth (now (opened .entry))) (now (list .entry))
+        r (now (next .exit)) (now (opened .exit)) (now (list .exit)) ⌝ }
+{
+    let numbers = *opened;
+    let builder = Builder {
+        count: count,
+        depth: depth,
+        opened: numbers,
+    };
+    let closing = span_of(span[0], span[1], span[2], span[3], span[4]);
+    let stepped = builder.close(list, closing);
+    store_step(stepped, next, opened)
+}
+
+// A point's trees and open trees.
+#[no_mangle]
+pub extern "C" fn tt_builder_point(
+    list: &[u32],
+    count: u32,
+    depth: usize,
+    opened: &[u32; 256],
+    point: &mut [u32; 2],
+) -> u64
+    ensures { λ r. ⌜ PointReplied (lent count depth (now (opened .entry))) (now (list .entry)) (now (point .entry))
+        r (now (point .exit)) ⌝ }
+{
+    let numbers = *opened;
+    let builder = Builder {
+        count: count,
+        depth: depth,
+        opened: numbers,
+    };
+    match builder.restore_point(list) {
+        PointTaken::Refused(refusal) => refused_code(refusal),
+        PointTaken::Point(taken) => {
+            let words = [taken.trees, taken.opened];
+            *point = words;
+            0
+        }
+    }
+}
+
+#[no_mangle]
+pub extern "C" fn tt_builder_restore(
+    list: &[u32],
+    count: u32,
+    depth: usize,
+    trees: u32,
+    opens: u32,
+    next: &mut [usize; 2],
+    opened: &mut [u32; 256],
+) -> u64
+    ensures { λ r. ⌜ StepReplied (restore (record { trees = trees; opened = opens }))
+        (lent count depth (now (opened .entry))) (now (list .entry))
+        r (now (next .exit)) (now (opened .exit)) (now (list .entry)) ⌝ }
+{
+    let numbers = *opened;
+    let builder = Builder {
+        count: count,
+        depth: depth,
+        opened: numbers,
+    };
+    let point = Point {
+        trees: trees,
+        opened: opens,
+    };
+    let stepped = builder.restore(list, point);
+    store_step(stepped, next, opened)
+}
+
+// The bytes of the list over given tables; `skip` leaves the root out where one subtree holds all others.
+#[no_mangle]
+pub extern "C" fn tt_builder_build(
+    list: &[u32],
+    count: u32,
+    depth: usize,
+    opened: &[u32; 256],
+    skip: bool,
+    parts: &[u32],
+    symbols: &[u32],
+    work: &mut [u32],
+    out: &mut [u8],
+) -> u64
+    ensures { λ r. ⌜ BuildReplied (lent count depth (now (opened .entry))) skip (now (list .entry))
+        (now (parts .entry)) (now (symbols .entry)) (now (work .entry)) (now (out .entry))
+        r (now (work .exit)) (now (out .exit)) ⌝ }
+{
+    let numbers = *opened;
+    let builder = Builder {
+        count: count,
+        depth: depth,
+        opened: numbers,
+    };
+    if skip {
+        let report = builder.build_skip_top_subtree(list, parts, symbols, work, out);
+        return report_code(report);
+    }
+    let report = builder.build(list, parts, symbols, work, out);
+    report_code(report)
+}
