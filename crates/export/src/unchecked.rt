@@ -2,8 +2,8 @@
 use crate::replies::refused_code;
 use cursor::look::Ahead;
 use cursor::look::TwoLeaves;
-use cursor::state::At;
 use cursor::plan::Answer;
+use cursor::state::At;
 use tree::raw::place as wide;
 use tree::types::TokenTree;
 use tree::words::tree_words;
