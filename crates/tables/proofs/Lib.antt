@@ -3,6 +3,8 @@ pub mod KeyReturns
 pub mod ProbeLaw
 pub mod GatherLaw
 pub mod GatherReturns
+pub mod SelectLaw
+pub mod SelectReturns
 pub mod ArrangeLaw
 pub mod TableLaw
 pub mod TableReturns

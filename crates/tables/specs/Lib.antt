@@ -1,4 +1,5 @@
 pub mod Keys
+pub mod Select
 pub mod Probe
 pub mod Arrange
 pub mod Runs

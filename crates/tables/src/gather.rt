@@ -1,16 +1,18 @@
 // The distinct keys of a list, or of one class of it, with their counts: gathered through a hash table of ranks.
 use crate::keys::alike;
-use crate::keys::live_in;
 use crate::keys::raise;
 use crate::keys::set_at;
 use crate::keys::size;
 use crate::keys::slot;
+use crate::select::number;
+use crate::select::select;
 ghost use mathlib.Core.Path.{_≡_};
 ghost use mathlib.Core.Bool.{true};
 ghost use Prim.Native.Nat.{_+_, _≤_, _<_};
 ghost use lib.ListN.{length, set};
 ghost use Rattle.format.specs.MakeTables.{keyCount};
 ghost use Rattle.tables.specs.Keys.{liveIn, likeRank, UpTo, Under};
+ghost use Rattle.tables.specs.Select.{numberOf, treesOf, Selected};
 ghost use Rattle.tables.specs.Probe.{probe, nextSlot, Filled, FilledIf};
 
 pub enum Looked {
@@ -124,34 +126,101 @@ fn enter_key(
     }
 }
 
-fn enter(
+// Enters the m chosen numbers, which are the keys from one number to before another.
+fn enter_chosen(
     l: &[u32],
     symbols: bool,
     classes: usize,
     class: usize,
-    v: usize,
+    from: usize,
+    to: usize,
+    m: usize,
+    chosen: &[u32],
     p: usize,
     table: &mut [u32],
     firsts: &mut [u32],
     counts: &mut [u32],
 ) -> usize
-    requires { ⌜ (v < keyCount (now l) symbols) × (keyCount (now l) symbols < 4294967295) × (classes ≤ 1048576) ⌝ }
+    requires { ⌜ (to ≤ keyCount (now l) symbols) × (keyCount (now l) symbols < 4294967295) × (classes ≤ 1048576) ⌝ }
     requires { ⌜ (0 < length (now table)) × (length (now table) ≤ 1048576) ⌝ }
     requires { ⌜ (p ≤ length (now firsts)) × (length (now firsts) ≤ 1048576)
         × (length (now counts) ≡ length (now firsts)) ⌝ }
-    requires { ⌜ Filled (now l) symbols classes class (length (now table)) v p (now table) (now firsts)
+    requires { ⌜ (to ≤ from + length (now chosen))
+        × Selected (liveIn (now l) symbols classes class) from to m (now chosen) ⌝ }
+    requires { ⌜ Filled (now l) symbols classes class (length (now table)) from p (now table) (now firsts)
         (now counts) ⌝ }
     ensures { λ r. ⌜ FilledIf (length (now (firsts .entry))) (now (l .entry)) symbols classes class
         (length (now (table .entry)))
-        (v + 1) r (now (table .exit)) (now (firsts .exit)) (now (counts .exit)) ⌝ }
+        to r (now (table .exit)) (now (firsts .exit)) (now (counts .exit)) ⌝ }
 {
-    if live_in(l, symbols, classes, class, v) {
-        return enter_key(l, symbols, classes, class, v, p, table, firsts, counts);
+    let room = firsts.len();
+    let mut j: usize = 0;
+    let mut k = p;
+    while j < m {
+        let v = size(chosen[j]);
+        let q = enter_key(l, symbols, classes, class, v, k, table, firsts, counts);
+        if room < q {
+            return q;
+        }
+        k = q;
+        j = j + 1;
     }
-    p
+    k
 }
 
-// Enters all n keys.
+// Enters the keys of the trees from the t-th below the root to before another.
+fn enter_stretch(
+    l: &[u32],
+    symbols: bool,
+    classes: usize,
+    class: usize,
+    t: usize,
+    end: usize,
+    p: usize,
+    table: &mut [u32],
+    firsts: &mut [u32],
+    counts: &mut [u32],
+) -> usize
+    requires { ⌜ (t ≤ end) × (end ≤ t + 512) × (numberOf symbols end ≤ keyCount (now l) symbols) ⌝ }
+    requires { ⌜ (keyCount (now l) symbols < 4294967295) × (classes ≤ 1048576) ⌝ }
+    requires { ⌜ (0 < length (now table)) × (length (now table) ≤ 1048576) ⌝ }
+    requires { ⌜ (p ≤ length (now firsts)) × (length (now firsts) ≤ 1048576)
+        × (length (now counts) ≡ length (now firsts)) ⌝ }
+    requires { ⌜ Filled (now l) symbols classes class (length (now table)) (numberOf symbols t) p
+        (now table) (now firsts) (now counts) ⌝ }
+    ensures { λ r. ⌜ FilledIf (length (now (firsts .entry))) (now (l .entry)) symbols classes class
+        (length (now (table .entry)))
+        (numberOf symbols end) r (now (table .exit)) (now (firsts .exit)) (now (counts .exit)) ⌝ }
+{
+    let mut chosen = [0u32; 1024];
+    let m = select(l, symbols, classes, class, t, end, &mut chosen);
+    let from = number(symbols, t);
+    let to = number(symbols, end);
+    enter_chosen(l, symbols, classes, class, from, to, m, &chosen, p, table, firsts, counts)
+}
+
+// How many trees have n numbers.
+fn tree_count(symbols: bool, n: usize) -> usize
+    ensures { λ r. ⌜ r ≡ treesOf symbols n ⌝ }
+{
+    if symbols {
+        return n;
+    }
+    n / 2
+}
+
+// Where the stretch from the t-th tree on ends.
+fn stretch_end(t: usize, trees: usize) -> usize
+    requires { ⌜ t < trees ⌝ }
+    ensures { λ r. ⌜ (t < r) × (r ≤ t + 512) × (r ≤ trees) ⌝ }
+{
+    if trees - t <= 512 {
+        return trees;
+    }
+    t + 512
+}
+
+// Enters all n keys, stretch by stretch.
 pub fn gather(
     l: &[u32],
     symbols: bool,
@@ -172,15 +241,17 @@ pub fn gather(
         n r (now (table .exit)) (now (firsts .exit)) (now (counts .exit)) ⌝ }
 {
     let room = firsts.len();
-    let mut v: usize = 0;
+    let trees = tree_count(symbols, n);
+    let mut t: usize = 0;
     let mut p: usize = 0;
-    while v < n {
-        let q = enter(l, symbols, classes, class, v, p, table, firsts, counts);
+    while t < trees {
+        let end = stretch_end(t, trees);
+        let q = enter_stretch(l, symbols, classes, class, t, end, p, table, firsts, counts);
         if room < q {
             return q;
         }
         p = q;
-        v = v + 1;
+        t = end;
     }
     p
 }

@@ -6,6 +6,7 @@ mod keys;
 pub mod make;
 mod order;
 mod scan;
+mod select;
 mod settle;
 mod sort;
 mod table;

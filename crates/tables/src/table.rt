@@ -171,6 +171,30 @@ fn middle(l: &[u32], symbols: bool, n: usize, words: &mut [u32], tallies: &mut [
     )
 }
 
+// The table, if there are no more than 65,536 keys.
+fn wide(l: &[u32], symbols: bool, n: usize, words: &mut [u32], tallies: &mut [u32]) -> usize
+    requires { ⌜ (n ≡ keyCount (now l) symbols) × (n < 4294967295) ⌝ }
+    requires { ⌜ Room (now l) symbols (now words) (now tallies) ⌝ }
+    ensures { λ r. ⌜ MadeIf (now (l .entry)) symbols 65536 r
+        (now (words .entry)) (now (words .exit)) (now (tallies .entry)) (now (tallies .exit)) ⌝ }
+{
+    let mut table = [0u32; 98304];
+    let mut firsts = [0u32; 65536];
+    let mut counts = [0u32; 65536];
+    let mut starts = [0u32; 4096];
+    through(
+        l,
+        symbols,
+        n,
+        words,
+        tallies,
+        &mut table,
+        &mut firsts,
+        &mut counts,
+        &mut starts,
+    )
+}
+
 // The table, for any keys: slow.
 fn slow(l: &[u32], symbols: bool, n: usize, words: &mut [u32], tallies: &mut [u32]) -> usize
     requires { ⌜ (n ≡ keyCount (now l) symbols) × (n < 4294967295) ⌝ }
@@ -198,6 +222,16 @@ fn large(l: &[u32], symbols: bool, n: usize, words: &mut [u32], tallies: &mut [u
     slow(l, symbols, n, words, tallies)
 }
 
+// The level behind the first: of a long list the middle arrays are not tried.
+fn level_after(n: usize) -> usize
+    ensures { λ r. ⌜ (0 < r) × (r ≤ 2) ⌝ }
+{
+    if 131072 < n {
+        return 2;
+    }
+    1
+}
+
 // Small arrays first, then larger ones. The call of itself keeps each class's arrays in a frame of their own.
 fn tries(
     l: &[u32],
@@ -217,7 +251,7 @@ fn tries(
         if p <= 1024 {
             return p;
         }
-        return tries(l, symbols, n, 1, words, tallies);
+        return tries(l, symbols, n, level_after(n), words, tallies);
     }
     if level == 1 {
         let p = middle(l, symbols, n, words, tallies);
@@ -225,6 +259,13 @@ fn tries(
             return p;
         }
         return tries(l, symbols, n, 2, words, tallies);
+    }
+    if level == 2 {
+        let p = wide(l, symbols, n, words, tallies);
+        if p <= 65536 {
+            return p;
+        }
+        return tries(l, symbols, n, 3, words, tallies);
     }
     large(l, symbols, n, words, tallies)
 }

@@ -7,13 +7,15 @@ use Rattle.tables.proofs.table.tries.Reads as tries
 use Rattle.tables.proofs.table.tries.Kinds as tries-kinds
 use Rattle.tables.proofs.table.+tries.Lts-tries as tries-lts
 use Rattle.tables.proofs.table.large.Reads as large-reads
+use Rattle.tables.proofs.table.level_after.Reads as level-after-reads
 use Rattle.tables.proofs.table.middle.Reads as middle-reads
 use Rattle.tables.proofs.table.small.Reads as small-reads
+use Rattle.tables.proofs.table.wide.Reads as wide-reads
 use Rattle.tables.proofs.table.+tries.{statement}
 use Rattle.tables.proofs.table.+tries.Tie.{close}
 
 abbrev μ-tries : Measures 3 tries-kinds.ps ℕ
-μ-tries κs a = 2 - a .1 .1 .1 .0
+μ-tries κs a = 3 - a .1 .1 .1 .0
 
 abbrev tries-at : ℕ → In 3 tries-kinds.ps
 tries-at t = and 3 tries-kinds.ps (is 3 tries-kinds.ps μ-tries t) tries.Pre
@@ -21,274 +23,511 @@ tries-at t = and 3 tries-kinds.ps (is 3 tries-kinds.ps μ-tries t) tries.Pre
 abbrev tries-below : ℕ → In 3 tries-kinds.ps
 tries-below t = and 3 tries-kinds.ps (falls 3 tries-kinds.ps _<_ μ-tries t) tries.Pre
 
--- src/table.rt:185:13
+-- src/table.rt:250:13
 tries-small-requires : (t : ℕ) → tries-lts.Need-small-requires (
   small-reads.Asked,
   small-reads.Learnt,
+  level-after-reads.Asked,
+  level-after-reads.Learnt,
   tries-below t,
   tries.Post,
   middle-reads.Asked,
   middle-reads.Learnt,
+  wide-reads.Asked,
+  wide-reads.Learnt,
   large-reads.Asked,
   large-reads.Learnt,
 ) (tries-at t) tries.Post
 tries-small-requires t c κs = search (needs, tries-cases)
 
--- src/table.rt:187:13
+-- src/table.rt:252:13
 tries-same-length : (t : ℕ) → tries-lts.Need-same-length (
   small-reads.Asked,
   small-reads.Learnt,
+  level-after-reads.Asked,
+  level-after-reads.Learnt,
   tries-below t,
   tries.Post,
   middle-reads.Asked,
   middle-reads.Learnt,
+  wide-reads.Asked,
+  wide-reads.Learnt,
   large-reads.Asked,
   large-reads.Learnt,
 ) (tries-at t) tries.Post
 tries-same-length t c = search (needs, tries-cases)
 
--- src/table.rt:187:13
+-- src/table.rt:252:13
 tries-same-length-2 : (t : ℕ) → tries-lts.Need-same-length-2 (
   small-reads.Asked,
   small-reads.Learnt,
+  level-after-reads.Asked,
+  level-after-reads.Learnt,
   tries-below t,
   tries.Post,
   middle-reads.Asked,
   middle-reads.Learnt,
+  wide-reads.Asked,
+  wide-reads.Learnt,
   large-reads.Asked,
   large-reads.Learnt,
 ) (tries-at t) tries.Post
 tries-same-length-2 t c = search (needs, tries-cases)
 
--- src/table.rt:187:13
+-- src/table.rt:252:13
 tries-returns : (t : ℕ) → tries-lts.Need-returns (
   small-reads.Asked,
   small-reads.Learnt,
+  level-after-reads.Asked,
+  level-after-reads.Learnt,
   tries-below t,
   tries.Post,
   middle-reads.Asked,
   middle-reads.Learnt,
+  wide-reads.Asked,
+  wide-reads.Learnt,
   large-reads.Asked,
   large-reads.Learnt,
 ) (tries-at t) tries.Post
 tries-returns t c = search (needs, tries-cases)
 
--- src/table.rt:189:9
-tries-tries-requires : (t : ℕ) → tries-lts.Need-tries-requires (
+-- src/table.rt:254:37
+tries-level-after-requires : (t : ℕ) → tries-lts.Need-level-after-requires (
   small-reads.Asked,
   small-reads.Learnt,
+  level-after-reads.Asked,
+  level-after-reads.Learnt,
   tries-below t,
   tries.Post,
   middle-reads.Asked,
   middle-reads.Learnt,
+  wide-reads.Asked,
+  wide-reads.Learnt,
+  large-reads.Asked,
+  large-reads.Learnt,
+) (tries-at t) tries.Post
+tries-level-after-requires t c κs = search (needs, tries-cases)
+
+-- src/table.rt:254:9
+tries-tries-requires : (t : ℕ) → tries-lts.Need-tries-requires (
+  small-reads.Asked,
+  small-reads.Learnt,
+  level-after-reads.Asked,
+  level-after-reads.Learnt,
+  tries-below t,
+  tries.Post,
+  middle-reads.Asked,
+  middle-reads.Learnt,
+  wide-reads.Asked,
+  wide-reads.Learnt,
   large-reads.Asked,
   large-reads.Learnt,
 ) (tries-at t) tries.Post
 tries-tries-requires t c κs = search (needs, tries-cases)
 
--- src/table.rt:189:9
+-- src/table.rt:254:9
 tries-same-length-3 : (t : ℕ) → tries-lts.Need-same-length-3 (
   small-reads.Asked,
   small-reads.Learnt,
+  level-after-reads.Asked,
+  level-after-reads.Learnt,
   tries-below t,
   tries.Post,
   middle-reads.Asked,
   middle-reads.Learnt,
+  wide-reads.Asked,
+  wide-reads.Learnt,
   large-reads.Asked,
   large-reads.Learnt,
 ) (tries-at t) tries.Post
 tries-same-length-3 t c = search (needs, tries-cases)
 
--- src/table.rt:189:9
+-- src/table.rt:254:9
 tries-same-length-4 : (t : ℕ) → tries-lts.Need-same-length-4 (
   small-reads.Asked,
   small-reads.Learnt,
+  level-after-reads.Asked,
+  level-after-reads.Learnt,
   tries-below t,
   tries.Post,
   middle-reads.Asked,
   middle-reads.Learnt,
+  wide-reads.Asked,
+  wide-reads.Learnt,
   large-reads.Asked,
   large-reads.Learnt,
 ) (tries-at t) tries.Post
 tries-same-length-4 t c = search (needs, tries-cases)
 
--- src/table.rt:189:9
+-- src/table.rt:254:9
 tries-returns-2 : (t : ℕ) → tries-lts.Need-returns-2 (
   small-reads.Asked,
   small-reads.Learnt,
+  level-after-reads.Asked,
+  level-after-reads.Learnt,
   tries-below t,
   tries.Post,
   middle-reads.Asked,
   middle-reads.Learnt,
+  wide-reads.Asked,
+  wide-reads.Learnt,
   large-reads.Asked,
   large-reads.Learnt,
 ) (tries-at t) tries.Post
 tries-returns-2 t c = search (needs, tries-cases)
 
--- src/table.rt:192:13
+-- src/table.rt:257:13
 tries-middle-requires : (t : ℕ) → tries-lts.Need-middle-requires (
   small-reads.Asked,
   small-reads.Learnt,
+  level-after-reads.Asked,
+  level-after-reads.Learnt,
   tries-below t,
   tries.Post,
   middle-reads.Asked,
   middle-reads.Learnt,
+  wide-reads.Asked,
+  wide-reads.Learnt,
   large-reads.Asked,
   large-reads.Learnt,
 ) (tries-at t) tries.Post
 tries-middle-requires t c κs = search (needs, tries-cases)
 
--- src/table.rt:194:13
+-- src/table.rt:259:13
 tries-same-length-5 : (t : ℕ) → tries-lts.Need-same-length-5 (
   small-reads.Asked,
   small-reads.Learnt,
+  level-after-reads.Asked,
+  level-after-reads.Learnt,
   tries-below t,
   tries.Post,
   middle-reads.Asked,
   middle-reads.Learnt,
+  wide-reads.Asked,
+  wide-reads.Learnt,
   large-reads.Asked,
   large-reads.Learnt,
 ) (tries-at t) tries.Post
 tries-same-length-5 t c = search (needs, tries-cases)
 
--- src/table.rt:194:13
+-- src/table.rt:259:13
 tries-same-length-6 : (t : ℕ) → tries-lts.Need-same-length-6 (
   small-reads.Asked,
   small-reads.Learnt,
+  level-after-reads.Asked,
+  level-after-reads.Learnt,
   tries-below t,
   tries.Post,
   middle-reads.Asked,
   middle-reads.Learnt,
+  wide-reads.Asked,
+  wide-reads.Learnt,
   large-reads.Asked,
   large-reads.Learnt,
 ) (tries-at t) tries.Post
 tries-same-length-6 t c = search (needs, tries-cases)
 
--- src/table.rt:194:13
+-- src/table.rt:259:13
 tries-returns-3 : (t : ℕ) → tries-lts.Need-returns-3 (
   small-reads.Asked,
   small-reads.Learnt,
+  level-after-reads.Asked,
+  level-after-reads.Learnt,
   tries-below t,
   tries.Post,
   middle-reads.Asked,
   middle-reads.Learnt,
+  wide-reads.Asked,
+  wide-reads.Learnt,
   large-reads.Asked,
   large-reads.Learnt,
 ) (tries-at t) tries.Post
 tries-returns-3 t c = search (needs, tries-cases)
 
--- src/table.rt:196:9
+-- src/table.rt:261:9
 tries-tries-requires-2 : (t : ℕ) → tries-lts.Need-tries-requires-2 (
   small-reads.Asked,
   small-reads.Learnt,
+  level-after-reads.Asked,
+  level-after-reads.Learnt,
   tries-below t,
   tries.Post,
   middle-reads.Asked,
   middle-reads.Learnt,
+  wide-reads.Asked,
+  wide-reads.Learnt,
   large-reads.Asked,
   large-reads.Learnt,
 ) (tries-at t) tries.Post
 tries-tries-requires-2 t c κs = search (needs, tries-cases)
 
--- src/table.rt:196:9
+-- src/table.rt:261:9
 tries-same-length-7 : (t : ℕ) → tries-lts.Need-same-length-7 (
   small-reads.Asked,
   small-reads.Learnt,
+  level-after-reads.Asked,
+  level-after-reads.Learnt,
   tries-below t,
   tries.Post,
   middle-reads.Asked,
   middle-reads.Learnt,
+  wide-reads.Asked,
+  wide-reads.Learnt,
   large-reads.Asked,
   large-reads.Learnt,
 ) (tries-at t) tries.Post
 tries-same-length-7 t c = search (needs, tries-cases)
 
--- src/table.rt:196:9
+-- src/table.rt:261:9
 tries-same-length-8 : (t : ℕ) → tries-lts.Need-same-length-8 (
   small-reads.Asked,
   small-reads.Learnt,
+  level-after-reads.Asked,
+  level-after-reads.Learnt,
   tries-below t,
   tries.Post,
   middle-reads.Asked,
   middle-reads.Learnt,
+  wide-reads.Asked,
+  wide-reads.Learnt,
   large-reads.Asked,
   large-reads.Learnt,
 ) (tries-at t) tries.Post
 tries-same-length-8 t c = search (needs, tries-cases)
 
--- src/table.rt:196:9
+-- src/table.rt:261:9
 tries-returns-4 : (t : ℕ) → tries-lts.Need-returns-4 (
   small-reads.Asked,
   small-reads.Learnt,
+  level-after-reads.Asked,
+  level-after-reads.Learnt,
   tries-below t,
   tries.Post,
   middle-reads.Asked,
   middle-reads.Learnt,
+  wide-reads.Asked,
+  wide-reads.Learnt,
   large-reads.Asked,
   large-reads.Learnt,
 ) (tries-at t) tries.Post
 tries-returns-4 t c = search (needs, tries-cases)
 
--- src/table.rt:198:5
-tries-large-requires : (t : ℕ) → tries-lts.Need-large-requires (
+-- src/table.rt:264:13
+tries-wide-requires : (t : ℕ) → tries-lts.Need-wide-requires (
   small-reads.Asked,
   small-reads.Learnt,
+  level-after-reads.Asked,
+  level-after-reads.Learnt,
   tries-below t,
   tries.Post,
   middle-reads.Asked,
   middle-reads.Learnt,
+  wide-reads.Asked,
+  wide-reads.Learnt,
   large-reads.Asked,
   large-reads.Learnt,
 ) (tries-at t) tries.Post
-tries-large-requires t c κs = search (needs, tries-cases)
+tries-wide-requires t c κs = search (needs, tries-cases)
 
--- src/table.rt:179:1
+-- src/table.rt:266:13
 tries-same-length-9 : (t : ℕ) → tries-lts.Need-same-length-9 (
   small-reads.Asked,
   small-reads.Learnt,
+  level-after-reads.Asked,
+  level-after-reads.Learnt,
   tries-below t,
   tries.Post,
   middle-reads.Asked,
   middle-reads.Learnt,
+  wide-reads.Asked,
+  wide-reads.Learnt,
   large-reads.Asked,
   large-reads.Learnt,
 ) (tries-at t) tries.Post
 tries-same-length-9 t c = search (needs, tries-cases)
 
--- src/table.rt:179:1
+-- src/table.rt:266:13
 tries-same-length-10 : (t : ℕ) → tries-lts.Need-same-length-10 (
   small-reads.Asked,
   small-reads.Learnt,
+  level-after-reads.Asked,
+  level-after-reads.Learnt,
   tries-below t,
   tries.Post,
   middle-reads.Asked,
   middle-reads.Learnt,
+  wide-reads.Asked,
+  wide-reads.Learnt,
   large-reads.Asked,
   large-reads.Learnt,
 ) (tries-at t) tries.Post
 tries-same-length-10 t c = search (needs, tries-cases)
 
--- src/table.rt:179:1
+-- src/table.rt:266:13
 tries-returns-5 : (t : ℕ) → tries-lts.Need-returns-5 (
   small-reads.Asked,
   small-reads.Learnt,
+  level-after-reads.Asked,
+  level-after-reads.Learnt,
   tries-below t,
   tries.Post,
   middle-reads.Asked,
   middle-reads.Learnt,
+  wide-reads.Asked,
+  wide-reads.Learnt,
   large-reads.Asked,
   large-reads.Learnt,
 ) (tries-at t) tries.Post
 tries-returns-5 t c = search (needs, tries-cases)
 
-pub +tries-spec : {M : Type 1} → statement M
-+tries-spec = close μ-tries λ t. tries-lts.spec (
+-- src/table.rt:268:9
+tries-tries-requires-3 : (t : ℕ) → tries-lts.Need-tries-requires-3 (
   small-reads.Asked,
   small-reads.Learnt,
+  level-after-reads.Asked,
+  level-after-reads.Learnt,
   tries-below t,
   tries.Post,
   middle-reads.Asked,
   middle-reads.Learnt,
+  wide-reads.Asked,
+  wide-reads.Learnt,
+  large-reads.Asked,
+  large-reads.Learnt,
+) (tries-at t) tries.Post
+tries-tries-requires-3 t c κs = search (needs, tries-cases)
+
+-- src/table.rt:268:9
+tries-same-length-11 : (t : ℕ) → tries-lts.Need-same-length-11 (
+  small-reads.Asked,
+  small-reads.Learnt,
+  level-after-reads.Asked,
+  level-after-reads.Learnt,
+  tries-below t,
+  tries.Post,
+  middle-reads.Asked,
+  middle-reads.Learnt,
+  wide-reads.Asked,
+  wide-reads.Learnt,
+  large-reads.Asked,
+  large-reads.Learnt,
+) (tries-at t) tries.Post
+tries-same-length-11 t c = search (needs, tries-cases)
+
+-- src/table.rt:268:9
+tries-same-length-12 : (t : ℕ) → tries-lts.Need-same-length-12 (
+  small-reads.Asked,
+  small-reads.Learnt,
+  level-after-reads.Asked,
+  level-after-reads.Learnt,
+  tries-below t,
+  tries.Post,
+  middle-reads.Asked,
+  middle-reads.Learnt,
+  wide-reads.Asked,
+  wide-reads.Learnt,
+  large-reads.Asked,
+  large-reads.Learnt,
+) (tries-at t) tries.Post
+tries-same-length-12 t c = search (needs, tries-cases)
+
+-- src/table.rt:268:9
+tries-returns-6 : (t : ℕ) → tries-lts.Need-returns-6 (
+  small-reads.Asked,
+  small-reads.Learnt,
+  level-after-reads.Asked,
+  level-after-reads.Learnt,
+  tries-below t,
+  tries.Post,
+  middle-reads.Asked,
+  middle-reads.Learnt,
+  wide-reads.Asked,
+  wide-reads.Learnt,
+  large-reads.Asked,
+  large-reads.Learnt,
+) (tries-at t) tries.Post
+tries-returns-6 t c = search (needs, tries-cases)
+
+-- src/table.rt:270:5
+tries-large-requires : (t : ℕ) → tries-lts.Need-large-requires (
+  small-reads.Asked,
+  small-reads.Learnt,
+  level-after-reads.Asked,
+  level-after-reads.Learnt,
+  tries-below t,
+  tries.Post,
+  middle-reads.Asked,
+  middle-reads.Learnt,
+  wide-reads.Asked,
+  wide-reads.Learnt,
+  large-reads.Asked,
+  large-reads.Learnt,
+) (tries-at t) tries.Post
+tries-large-requires t c κs = search (needs, tries-cases)
+
+-- src/table.rt:236:1
+tries-same-length-13 : (t : ℕ) → tries-lts.Need-same-length-13 (
+  small-reads.Asked,
+  small-reads.Learnt,
+  level-after-reads.Asked,
+  level-after-reads.Learnt,
+  tries-below t,
+  tries.Post,
+  middle-reads.Asked,
+  middle-reads.Learnt,
+  wide-reads.Asked,
+  wide-reads.Learnt,
+  large-reads.Asked,
+  large-reads.Learnt,
+) (tries-at t) tries.Post
+tries-same-length-13 t c = search (needs, tries-cases)
+
+-- src/table.rt:236:1
+tries-same-length-14 : (t : ℕ) → tries-lts.Need-same-length-14 (
+  small-reads.Asked,
+  small-reads.Learnt,
+  level-after-reads.Asked,
+  level-after-reads.Learnt,
+  tries-below t,
+  tries.Post,
+  middle-reads.Asked,
+  middle-reads.Learnt,
+  wide-reads.Asked,
+  wide-reads.Learnt,
+  large-reads.Asked,
+  large-reads.Learnt,
+) (tries-at t) tries.Post
+tries-same-length-14 t c = search (needs, tries-cases)
+
+-- src/table.rt:236:1
+tries-returns-7 : (t : ℕ) → tries-lts.Need-returns-7 (
+  small-reads.Asked,
+  small-reads.Learnt,
+  level-after-reads.Asked,
+  level-after-reads.Learnt,
+  tries-below t,
+  tries.Post,
+  middle-reads.Asked,
+  middle-reads.Learnt,
+  wide-reads.Asked,
+  wide-reads.Learnt,
+  large-reads.Asked,
+  large-reads.Learnt,
+) (tries-at t) tries.Post
+tries-returns-7 t c = search (needs, tries-cases)
+
+pub +tries-spec : {M : Type 1} → statement M
++tries-spec = close μ-tries λ t. tries-lts.spec (
+  small-reads.Asked,
+  small-reads.Learnt,
+  level-after-reads.Asked,
+  level-after-reads.Learnt,
+  tries-below t,
+  tries.Post,
+  middle-reads.Asked,
+  middle-reads.Learnt,
+  wide-reads.Asked,
+  wide-reads.Learnt,
   large-reads.Asked,
   large-reads.Learnt,
 )
@@ -298,6 +537,7 @@ pub +tries-spec : {M : Type 1} → statement M
     (tries-same-length t)
     (tries-same-length-2 t)
     (tries-returns t)
+    (tries-level-after-requires t)
     (tries-tries-requires t)
     (tries-same-length-3 t)
     (tries-same-length-4 t)
@@ -310,7 +550,15 @@ pub +tries-spec : {M : Type 1} → statement M
     (tries-same-length-7 t)
     (tries-same-length-8 t)
     (tries-returns-4 t)
-    (tries-large-requires t)
+    (tries-wide-requires t)
     (tries-same-length-9 t)
     (tries-same-length-10 t)
     (tries-returns-5 t)
+    (tries-tries-requires-3 t)
+    (tries-same-length-11 t)
+    (tries-same-length-12 t)
+    (tries-returns-6 t)
+    (tries-large-requires t)
+    (tries-same-length-13 t)
+    (tries-same-length-14 t)
+    (tries-returns-7 t)

@@ -1,0 +1,17 @@
+use borrow.Author.Needs.{needs}
+use Rattle.tables.proofs.SelectReturns.{number-cases}
+use Rattle.tables.proofs.gather.tree_count.Statement.{statement}
+use Rattle.tables.proofs.gather.tree_count.Tie as tie
+use Rattle.tables.proofs.gather.tree_count.Reads as reads
+use Rattle.tables.proofs.gather.tree_count.Lts as lts
+
+-- src/gather.rt:207:9
+returns : tie.Need-returns
+returns c = search (needs, number-cases)
+
+-- src/gather.rt:203:1
+returns-2 : tie.Need-returns-2
+returns-2 c = search (needs, number-cases)
+
+pub tree-count-spec : {M : Type 1} → statement M
+tree-count-spec = tie.close (tie.spec returns returns-2)
