@@ -156,7 +156,7 @@ fn put_other(out: &mut [u8], at: usize, p: RawPunct)
     put_word(out, next + 1, p.char);
 }
 
-pub fn put_ident(out: &mut [u8], at: usize, p: RawIdent)
+pub(crate) fn put_ident(out: &mut [u8], at: usize, p: RawIdent)
     requires { ⌜ IdentReady p × (at + spanSize (spanOf (p .span)) + symbolSize (p .symbol) ≤ length (now out)) ⌝ }
     ensures { λ _. ⌜
         now (out .exit) ≡ put (now (out .entry)) at
@@ -341,7 +341,7 @@ fn put_root(out: &mut [u8], at: usize, p: RawSubtree, children: ChildrenBytes)
 
 // ---- the form that is chosen
 
-pub fn put_punct(out: &mut [u8], at: usize, p: RawPunct)
+pub(crate) fn put_punct(out: &mut [u8], at: usize, p: RawPunct)
     requires { ⌜ PunctReady p × (at + length (treeBytes 1 (punctRaw p) 0) ≤ length (now out)) ⌝ }
     ensures { λ _. ⌜ now (out .exit) ≡ put (now (out .entry)) at (treeBytes 1 (punctRaw p) 0) ⌝ }
 {
@@ -352,7 +352,7 @@ pub fn put_punct(out: &mut [u8], at: usize, p: RawPunct)
     put_other(out, at, p);
 }
 
-pub fn put_literal(out: &mut [u8], at: usize, p: RawLiteral)
+pub(crate) fn put_literal(out: &mut [u8], at: usize, p: RawLiteral)
     requires { ⌜ LiteralReady p × (at + length (treeBytes 1 (literalRaw p) 0) ≤ length (now out)) ⌝ }
     ensures { λ _. ⌜ now (out .exit) ≡ put (now (out .entry)) at (treeBytes 1 (literalRaw p) 0) ⌝ }
 {
@@ -367,7 +367,7 @@ pub fn put_literal(out: &mut [u8], at: usize, p: RawLiteral)
     put_long(out, at, p);
 }
 
-pub fn put_subtree(out: &mut [u8], at: usize, p: RawSubtree, children: ChildrenBytes)
+pub(crate) fn put_subtree(out: &mut [u8], at: usize, p: RawSubtree, children: ChildrenBytes)
     requires { ⌜ SubtreeReady p × (at + length (treeBytes 1 (subtreeRaw p) (children .0)) ≤ length (now out)) ⌝ }
     ensures { λ _. ⌜ now (out .exit) ≡ put (now (out .entry)) at (treeBytes 1 (subtreeRaw p) (children .0)) ⌝ }
 {
