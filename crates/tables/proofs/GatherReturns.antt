@@ -18,7 +18,7 @@ use Rattle.tables.specs.declared.gather.Looked.the-variants.{Found, Empt
 use Rattle.tables.proofs.Lists.{kept}
 use Rattle.tables.proofs.KeyReturns.{slot-same}
 use Rattle.tables.proofs.ProbeLaw.{probe-found}
-use Rattle.tables.proofs.GatherLaw.{gathered-none, gather-dead, gather-found, gather-new, reached-none, reach-none, reach-new}
+use Rattle.tables.proofs.GatherLaw.{gathered-none, gather-found, gather-new, reached-none, reach-none, reach-new}
 
 -- ---- the next slot
 
@@ -109,10 +109,6 @@ module _ (l : List ℕ) (s : Bool) (C k N v p : ℕ) (t f c : List ℕ) (F : Fil
       let b : getD (news (liveIn l s C k) (alikeAt l s) v) r 0 < v = news-bound (liveIn l s C k) (alikeAt l s) v r (omega (arith, F .gathered .number)) in
       omega arith
 
-  pub filled-dead : (m : ℕ) (b : Bool) → b ≡ liveIn l s C k v → b ≡ false → FilledIf m l s C k N (v + 1) p t f c
-  filled-dead m b e h =
-      record { filled = λ _. record { gathered = gather-dead (liveIn l s C k) (alikeAt l s) v p f c (F .gathered) (sym e ∙ h); reached = F .reached } }
-
   pub filled-over : (m : ℕ) → FilledIf m l s C k N (v + 1) (m + 1) t f c
   filled-over m = record { filled = λ h. absurd (omega arith) }
 
@@ -153,10 +149,7 @@ module _ (l : List ℕ) (s : Bool) (C k N v p : ℕ) (t f c : List ℕ) (F : Fil
             });
           }
 
-pub told-true : (x b : Bool) → b ≡ x → b ≡ true → x ≡ true
-told-true x b e h = sym e ∙ h
-
-pub ruleset enter-cases = (kept, told-true, filled-upto, filled-under, filled-dead, filled-over, found-count, filled-found, filled-new)
+pub ruleset enter-cases = (kept, filled-upto, filled-under, filled-over, found-count, filled-found, filled-new)
 
 -- ---- all keys
 
@@ -171,10 +164,7 @@ module _ (l : List ℕ) (s : Bool) (C k N : ℕ) (t f c : List ℕ) where
   pub filled-many : (m v q : ℕ) → m < q → FilledIf m l s C k N v q t f c
   filled-many m v q h = record { filled = λ g. absurd (omega arith) }
 
-  pub filled-all : (m v n p : ℕ) → Filled l s C k N v p t f c → v ≤ n → n ≤ v → FilledIf m l s C k N n p t f c
-  filled-all m v n p F a b = let e : v ≡ n = omega arith in record { filled = λ _. rw e at F }
-
-pub ruleset gather-cases = (kept, filled-size, filled-again, filled-many, filled-all)
+pub ruleset gather-cases = (kept, filled-size, filled-again, filled-many)
 
 -- nothing is entered yet in arrays of zeros
 pub filled-none : (l : List ℕ) (s : Bool) (C k size m : ℕ) (c : List ℕ)

@@ -19,7 +19,6 @@ use Rattle.tables.specs.Runs.{Room}
 use Rattle.tables.specs.Pairs.{Behind, Sought, Scanned}
 use Rattle.tables.proofs.Lists.{kept}
 use Rattle.tables.proofs.GatherLaw.{gathered-none, gather-dead, gather-found, gather-new}
-use Rattle.tables.proofs.GatherReturns.{told-true}
 use Rattle.tables.proofs.TableLaw.{in-mono}
 use Rattle.tables.proofs.SortLaw.{behind-none, behind-then}
 
@@ -146,6 +145,9 @@ module _ (l : List ℕ) (s : Bool) (v p : ℕ) (w t : List ℕ) (G : Gathered (l
           words = set-behind (p + 1) w p v (omega arith);
           tallies = set-behind (p + 1) t p 1 (omega arith);
         })
+
+pub told-true : (x b : Bool) → b ≡ x → b ≡ true → x ≡ true
+told-true x b e h = sym e ∙ h
 
 pub ruleset scan-one-cases = (told-true, scan-under, scan-dead, scan-count, scan-found, scan-new)
 

@@ -225,9 +225,11 @@ stretch-room s t u x y b ex ey h e = go s ex ey
   where
     wide : length b ≡ 1024
     wide = e ∙ length-replicate {A = ℕ} 1024 0
+
     go : (s : Bool) → x ≡ numberOf s t → y ≡ numberOf s u → y ≤ x + length b
     go true p q = let w = wide in omega arith
     go false p q = let w = wide in omega arith
 
 pub ruleset stretch-cases = (kept, number-fits, number-most, stretch-room, stretch-chosen, stretch-from, stretch-to)
+
 pub ruleset all-cases = (kept, stretch-most, stretch-all, stretch-start)

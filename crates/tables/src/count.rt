@@ -3,6 +3,7 @@ use crate::classes::count_by_classes;
 use crate::gather::gather;
 use crate::keys::alike;
 use crate::keys::key_count;
+use crate::keys::level_after;
 use crate::keys::live;
 use crate::keys::place_in;
 ghost use mathlib.Core.Path.{_≡_};
@@ -30,6 +31,17 @@ fn count_middle(l: &[u32], symbols: bool, n: usize) -> usize
     let mut table = [0u32; 65536];
     let mut firsts = [0u32; 32768];
     let mut counts = [0u32; 32768];
+    gather(l, symbols, 1, 0, n, &mut table, &mut firsts, &mut counts)
+}
+
+// The number, if it is no more than 65,536.
+fn count_wide(l: &[u32], symbols: bool, n: usize) -> usize
+    requires { ⌜ (n ≡ keyCount (now l) symbols) × (n < 4294967295) ⌝ }
+    ensures { λ r. ⌜ CountIf 65536 (now (l .entry)) symbols r ⌝ }
+{
+    let mut table = [0u32; 98304];
+    let mut firsts = [0u32; 65536];
+    let mut counts = [0u32; 65536];
     gather(l, symbols, 1, 0, n, &mut table, &mut firsts, &mut counts)
 }
 
@@ -108,7 +120,7 @@ fn counts(l: &[u32], symbols: bool, n: usize, level: usize) -> usize
         if p <= 1024 {
             return p;
         }
-        return counts(l, symbols, n, 1);
+        return counts(l, symbols, n, level_after(n));
     }
     if level == 1 {
         let p = count_middle(l, symbols, n);
@@ -116,6 +128,13 @@ fn counts(l: &[u32], symbols: bool, n: usize, level: usize) -> usize
             return p;
         }
         return counts(l, symbols, n, 2);
+    }
+    if level == 2 {
+        let p = count_wide(l, symbols, n);
+        if p <= 65536 {
+            return p;
+        }
+        return counts(l, symbols, n, 3);
     }
     count_large(l, symbols, n)
 }

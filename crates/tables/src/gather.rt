@@ -196,7 +196,20 @@ fn enter_stretch(
     let m = select(l, symbols, classes, class, t, end, &mut chosen);
     let from = number(symbols, t);
     let to = number(symbols, end);
-    enter_chosen(l, symbols, classes, class, from, to, m, &chosen, p, table, firsts, counts)
+    enter_chosen(
+        l,
+        symbols,
+        classes,
+        class,
+        from,
+        to,
+        m,
+        &chosen,
+        p,
+        table,
+        firsts,
+        counts,
+    )
 }
 
 // How many trees have n numbers.

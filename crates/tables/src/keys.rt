@@ -213,6 +213,16 @@ pub fn limit_of(symbols: bool) -> usize
     15
 }
 
+// The arrays that are tried after the small ones, by their level: for a long list not the middle ones.
+pub fn level_after(n: usize) -> usize
+    ensures { λ r. ⌜ (0 < r) × (r ≤ 2) ⌝ }
+{
+    if 131072 < n {
+        return 2;
+    }
+    1
+}
+
 // Stores key v as the k-th of a run.
 pub fn put_key(l: &[u32], symbols: bool, v: usize, out: &mut [u32], k: usize)
     requires { ⌜ (v < keyCount (now l) symbols) × (v < 4294967295) × (k < 4294967295) ⌝ }

@@ -1,5 +1,5 @@
-// The numbers of a stretch of trees that are keys. Every number is stored, and the next one over it if it is no key: there is
-// no branch on the sort of a tree.
+// The numbers of a stretch of trees that are keys. Every number is stored, and the next one over it if it is no key:
+// there is no branch on the sort of a tree.
 use crate::keys::live_in;
 ghost use mathlib.Core.Path.{_≡_};
 ghost use mathlib.Core.Bool.{false};
@@ -112,13 +112,22 @@ pub fn select(
     end: usize,
     chosen: &mut [u32],
 ) -> usize
-    requires { ⌜ (t ≤ end) × (numberOf symbols end ≤ keyCount (now l) symbols) × (keyCount (now l) symbols < 4294967295) ⌝ }
+    requires { ⌜ (t ≤ end) × (numberOf symbols end ≤ keyCount (now l) symbols)
+        × (keyCount (now l) symbols < 4294967295) ⌝ }
     requires { ⌜ (2 * end ≤ 2 * t + length (now chosen)) × (classes ≤ 1048576) ⌝ }
     ensures { λ r. ⌜ Selected (liveIn (now (l .entry)) symbols classes class)
         (numberOf symbols t) (numberOf symbols end) r (now (chosen .exit)) ⌝ }
 {
     if 1 < classes {
-        return select_each(l, symbols, classes, class, number(symbols, t), number(symbols, end), chosen);
+        return select_each(
+            l,
+            symbols,
+            classes,
+            class,
+            number(symbols, t),
+            number(symbols, end),
+            chosen,
+        );
     }
     if symbols {
         return select_each(l, true, 1, 0, t, end, chosen);

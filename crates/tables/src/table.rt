@@ -3,6 +3,7 @@ use crate::classes::by_classes;
 use crate::gather::gather;
 use crate::keys::get_at;
 use crate::keys::key_count;
+use crate::keys::level_after;
 use crate::keys::limit_of;
 use crate::keys::put_key;
 use crate::keys::set_at;
@@ -220,16 +221,6 @@ fn large(l: &[u32], symbols: bool, n: usize, words: &mut [u32], tallies: &mut [u
         return p;
     }
     slow(l, symbols, n, words, tallies)
-}
-
-// The level behind the first: of a long list the middle arrays are not tried.
-fn level_after(n: usize) -> usize
-    ensures { λ r. ⌜ (0 < r) × (r ≤ 2) ⌝ }
-{
-    if 131072 < n {
-        return 2;
-    }
-    1
 }
 
 // Small arrays first, then larger ones. The call of itself keeps each class's arrays in a frame of their own.

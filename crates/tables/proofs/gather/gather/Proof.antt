@@ -5,7 +5,7 @@ use mathlib.Core.Path.{_≡_}
 use Prim.Native.Nat.{ℕ, _+_, _-_, _≤_, _<_}
 use borrow.Author.Needs.{needs}
 use Rattle.tables.proofs.SelectReturns.{all-cases}
-use Rattle.tables.proofs.GatherReturns.{filled-size, filled-again, filled-many}
+use Rattle.tables.proofs.GatherReturns.{gather-cases}
 use Rattle.tables.proofs.gather.gather.Statement.{statement}
 use Rattle.tables.proofs.gather.gather.Tie as tie
 use Rattle.tables.proofs.gather.gather.Reads as reads
@@ -22,59 +22,59 @@ abbrev μ-loop : tie.MeasureT-loop
 
 -- src/gather.rt:244:9
 tree-count-requires : tie.Need-tree-count-requires Inv-loop μ-loop
-tree-count-requires c κs = search (needs, all-cases, filled-size, filled-again, filled-many)
+tree-count-requires c κs = search (needs, all-cases, gather-cases)
 
 -- src/gather.rt:247:5
 loop-holds : tie.Need-loop-holds Inv-loop μ-loop
-loop-holds c = (search (needs, all-cases, filled-size, filled-again, filled-many), search (needs, all-cases, filled-size, filled-again, filled-many), search (needs, all-cases, filled-size, filled-again, filled-many), search (needs, all-cases, filled-size, filled-again, filled-many), search (needs, all-cases, filled-size, filled-again, filled-many), search (needs, all-cases, filled-size, filled-again, filled-many))
+loop-holds c = (search (needs, all-cases, gather-cases), search (needs, all-cases, gather-cases), search (needs, all-cases, gather-cases), search (needs, all-cases, gather-cases), search (needs, all-cases, gather-cases), search (needs, all-cases, gather-cases))
 
 -- src/gather.rt:248:13
 stretch-end-requires : tie.Need-stretch-end-requires Inv-loop μ-loop
-stretch-end-requires c κs = search (needs, all-cases, filled-size, filled-again, filled-many)
+stretch-end-requires c κs = search (needs, all-cases, gather-cases)
 
 -- src/gather.rt:249:13
 enter-stretch-requires : tie.Need-enter-stretch-requires Inv-loop μ-loop
-enter-stretch-requires c κs = ((search (needs, all-cases, filled-size, filled-again, filled-many), search (needs, all-cases, filled-size, filled-again, filled-many), search (needs, all-cases, filled-size, filled-again, filled-many)), ((search (needs, all-cases, filled-size, filled-again, filled-many), search (needs, all-cases, filled-size, filled-again, filled-many)), ((search (needs, all-cases, filled-size, filled-again, filled-many), search (needs, all-cases, filled-size, filled-again, filled-many)), ((search (needs, all-cases, filled-size, filled-again, filled-many), search (needs, all-cases, filled-size, filled-again, filled-many), search (needs, all-cases, filled-size, filled-again, filled-many)), search (needs, all-cases, filled-size, filled-again, filled-many)))))
+enter-stretch-requires c κs = ((search (needs, all-cases, gather-cases), search (needs, all-cases, gather-cases), search (needs, all-cases, gather-cases)), ((search (needs, all-cases, gather-cases), search (needs, all-cases, gather-cases)), ((search (needs, all-cases, gather-cases), search (needs, all-cases, gather-cases)), ((search (needs, all-cases, gather-cases), search (needs, all-cases, gather-cases), search (needs, all-cases, gather-cases)), search (needs, all-cases, gather-cases)))))
 
 -- src/gather.rt:251:13
 same-length : tie.Need-same-length Inv-loop μ-loop
-same-length c = search (needs, all-cases, filled-size, filled-again, filled-many)
+same-length c = search (needs, all-cases, gather-cases)
 
 -- src/gather.rt:251:13
 same-length-2 : tie.Need-same-length-2 Inv-loop μ-loop
-same-length-2 c = search (needs, all-cases, filled-size, filled-again, filled-many)
+same-length-2 c = search (needs, all-cases, gather-cases)
 
 -- src/gather.rt:251:13
 same-length-3 : tie.Need-same-length-3 Inv-loop μ-loop
-same-length-3 c = search (needs, all-cases, filled-size, filled-again, filled-many)
+same-length-3 c = search (needs, all-cases, gather-cases)
 
 -- src/gather.rt:251:13
 returns : tie.Need-returns Inv-loop μ-loop
-returns c = search (needs, all-cases, filled-size, filled-again, filled-many)
+returns c = search (needs, all-cases, gather-cases)
 
 -- src/gather.rt:247:5
 loop-less : tie.Need-loop-less Inv-loop μ-loop
-loop-less c = search (needs, all-cases, filled-size, filled-again, filled-many)
+loop-less c = search (needs, all-cases, gather-cases)
 
 -- src/gather.rt:247:5
 loop-again : tie.Need-loop-again Inv-loop μ-loop
-loop-again c = (search (needs, all-cases, filled-size, filled-again, filled-many), search (needs, all-cases, filled-size, filled-again, filled-many), search (needs, all-cases, filled-size, filled-again, filled-many), search (needs, all-cases, filled-size, filled-again, filled-many), search (needs, all-cases, filled-size, filled-again, filled-many), search (needs, all-cases, filled-size, filled-again, filled-many))
+loop-again c = (search (needs, all-cases, gather-cases), search (needs, all-cases, gather-cases), search (needs, all-cases, gather-cases), search (needs, all-cases, gather-cases), search (needs, all-cases, gather-cases), search (needs, all-cases, gather-cases))
 
 -- src/gather.rt:224:1
 same-length-4 : tie.Need-same-length-4 Inv-loop μ-loop
-same-length-4 c = search (needs, all-cases, filled-size, filled-again, filled-many)
+same-length-4 c = search (needs, all-cases, gather-cases)
 
 -- src/gather.rt:224:1
 same-length-5 : tie.Need-same-length-5 Inv-loop μ-loop
-same-length-5 c = search (needs, all-cases, filled-size, filled-again, filled-many)
+same-length-5 c = search (needs, all-cases, gather-cases)
 
 -- src/gather.rt:224:1
 same-length-6 : tie.Need-same-length-6 Inv-loop μ-loop
-same-length-6 c = search (needs, all-cases, filled-size, filled-again, filled-many)
+same-length-6 c = search (needs, all-cases, gather-cases)
 
 -- src/gather.rt:224:1
 returns-2 : tie.Need-returns-2 Inv-loop μ-loop
-returns-2 c = search (needs, all-cases, filled-size, filled-again, filled-many)
+returns-2 c = search (needs, all-cases, gather-cases)
 
 pub gather-spec : {M : Type 1} → statement M
 gather-spec =

@@ -7,7 +7,7 @@ use Rattle.tables.proofs.table.tries.Reads as tries
 use Rattle.tables.proofs.table.tries.Kinds as tries-kinds
 use Rattle.tables.proofs.table.+tries.Lts-tries as tries-lts
 use Rattle.tables.proofs.table.large.Reads as large-reads
-use Rattle.tables.proofs.table.level_after.Reads as level-after-reads
+use Rattle.tables.proofs.keys.level_after.Reads as level-after-reads
 use Rattle.tables.proofs.table.middle.Reads as middle-reads
 use Rattle.tables.proofs.table.small.Reads as small-reads
 use Rattle.tables.proofs.table.wide.Reads as wide-reads
