@@ -12,6 +12,29 @@ pub struct Buffer {
     pub trees: u32,
     pub parts: Vec<u32>,
     pub symbols: Vec<u32>,
+    bundle: Vec<u8>,
+}
+
+unsafe extern "C" {
+    fn tt_check_bundle(bytes: *const u8, len: usize) -> u32;
+}
+
+/// The records of a stored bundle.
+fn bundle(bytes: &[u8], trees: u32, parts: &[u32], symbols: &[u32]) -> Vec<u8> {
+    let mut all = Vec::new();
+    for part in parts.chunks(3) {
+        all.extend(b"SP");
+        part.iter().for_each(|w| all.extend(w.to_le_bytes()));
+    }
+    for symbol in symbols {
+        all.extend(b"SY");
+        all.extend(symbol.to_le_bytes());
+    }
+    all.extend(b"BT");
+    all.extend(trees.to_le_bytes());
+    all.extend((bytes.len() as u32).to_le_bytes());
+    all.extend(bytes);
+    all
 }
 
 impl Buffer {
@@ -20,7 +43,8 @@ impl Buffer {
         let count = trees.len() as u32;
         let top = TopSubtree::from_serialized(trees);
         let (parts, symbols) = (top.part_list().concat(), top.symbol_list());
-        Buffer { top, trees: count, parts, symbols }
+        let bundle = bundle(top.bytes(), count, &parts, &symbols);
+        Buffer { top, trees: count, parts, symbols, bundle }
     }
 
     pub fn lent(&self) -> Lent<'_> {
@@ -62,16 +86,28 @@ pub fn source_walk(top: &TopSubtree) {
     }
 }
 
-/// The check beside the source's walk.
+/// The check beside the source's walk: of a bundle by the host's function, and of its buffer by the library of all functions.
 pub fn check(case: &Case) {
     short_row(
         &format!("check, {}", case.name),
         case.trees(),
         || {
             for b in &case.buffers {
-                proved::check(b.top.bytes(), b.trees, b.parts.len() / 3, b.symbols.len()).unwrap();
+                assert_eq!(unsafe { tt_check_bundle(b.bundle.as_ptr(), b.bundle.len()) }, 0);
             }
         },
         || case.buffers.iter().for_each(|b| source_walk(&b.top)),
     );
+    if case.name.ends_with("few entries, starts wrap") {
+        short_row(
+            &format!("check in the library of all functions, {}", case.name),
+            case.trees(),
+            || {
+                for b in &case.buffers {
+                    proved::check(b.top.bytes(), b.trees, b.parts.len() / 3, b.symbols.len()).unwrap();
+                }
+            },
+            || case.buffers.iter().for_each(|b| source_walk(&b.top)),
+        );
+    }
 }
