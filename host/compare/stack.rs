@@ -1,4 +1,4 @@
-//! Every public function on a thread with a stack of 1 MB, with the largest inputs.
+//! The functions that docs/COMPARISON.md names, on a thread with a stack of 1 MB, with the largest inputs.
 use crate::plain_list;
 use crate::proved::{self, Builder, Lent, Stack};
 use crate::steps::{Step, steps_of, take};

@@ -305,6 +305,6 @@ int main(int argc, char **argv) {
             stored_bad("more words than are due");
         }
     }
-    printf("replay: %zu cases, %zu walk steps and cursor calls among them, %zu differences\n", cases, calls, differences);
+    printf("replay: %zu cases, %zu calls of walks and cursors in them, %zu differences\n", cases, calls, differences);
     return differences != 0;
 }

@@ -77,7 +77,7 @@ fn reaches_past(list: &[u32], count: u32, depth: usize, opened: &[u32; 256], n: 
     if at + 1 + place(list[13 * at + 1]) <= place(n) {
         return false;
     }
-    // Few come so far: the open ones, and one that is not.
+    // An open one has count 0 stored and comes so far only in an altered run.
     if is_among(i, depth, opened) {
         return false;
     }

@@ -1,5 +1,5 @@
-// Walks to the end in one call. A library of its own: with other callers of the reader beside it the reader would not be
-// compiled into this loop.
+// Walks to the end in one call. A library of its own: with other callers of the reader beside it the reader would not
+// be compiled into this loop.
 use measure::walks::walk_sum;
 use walk::walk::Walk;
 ghost use mathlib.Core.Path.{_≡_};

@@ -1,4 +1,4 @@
-// A table too large for its slots: the keys of the trees are indexed instead, and the table is read through once for all.
+// A table too large for its slots: the keys of the trees are indexed instead, and the table is read through once.
 use crate::index::Looked;
 use crate::index::fill;
 use crate::index::find_key;

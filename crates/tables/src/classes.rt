@@ -1,5 +1,5 @@
-// More keys than arrays have room for: class by class, a class of a key being given by a hash of it. If a class has too many
-// keys, there are to be twice as many classes.
+// More keys than arrays have room for: class by class, a class of a key being given by a hash of it. If a class has
+// too many keys, there are to be twice as many classes.
 use crate::gather::gather;
 use crate::keys::get_at;
 use crate::keys::limit_of;

@@ -1,5 +1,5 @@
-// The distinct keys of a list without a hash table: numbers and counts are gathered in the lent runs, each key is looked
-// for among all before it. Slow, but right for any keys.
+// The distinct keys of a list without a hash table: numbers and counts are gathered in the lent runs, each key is
+// looked for among all before it. Slow, but right for any keys.
 use crate::keys::alike;
 use crate::keys::get_at;
 use crate::keys::live;

@@ -1,4 +1,4 @@
-// Numbers and counts that stand in the lent runs become the table: they are put in order, and numbers give way to words.
+// Numbers and counts that stand in the lent runs become the table: they are put in order, then words replace numbers.
 use crate::keys::get_at;
 use crate::keys::limit_of;
 use crate::keys::put_key;

@@ -223,7 +223,7 @@ fn large(l: &[u32], symbols: bool, n: usize, words: &mut [u32], tallies: &mut [u
     slow(l, symbols, n, words, tallies)
 }
 
-// Small arrays first, then larger ones. The call of itself keeps each class's arrays in a frame of their own.
+// Small arrays first, then larger ones. The call of itself keeps each size's arrays in a frame of their own.
 fn tries(
     l: &[u32],
     symbols: bool,

@@ -357,7 +357,7 @@ fn write_ruled(
     write_by_size(l, parts, symbols, work, out)
 }
 
-// Writes the buffer of a list over given tables. Answers how many bytes, or the first of rows 1 to 6 that the list breaks.
+// Writes the buffer of a list over given tables. Answers how many bytes, or the first of rows 1 to 6 that it breaks.
 pub fn encode_list(
     l: &[u32],
     parts: &[u32],

@@ -10,7 +10,7 @@ extern "C" {
 #endif
 
 /* 0 if the bundle passes, else the number of the refusal: 1, 2, 3, 4, 7, 8 or 9. The bytes are only read, and only those
- * from bytes on, len in number. With len 0 nothing is read. */
+ * from bytes on, len in number. With len 0 nothing is read. Nothing is kept between calls: threads may call it at once. */
 uint32_t tt_check_bundle(const uint8_t *bytes, size_t len);
 
 #ifdef __cplusplus

@@ -76,7 +76,7 @@ impl fmt::Display for Refusal {
 impl Error for Refusal {}
 
 /// Whether a bundle holds a tree list within the rules, every stored byte count true. A bundle may be of any length; it is only
-/// read, nothing outside it is read, and nothing is kept of it.
+/// read, nothing outside it is read, and nothing is kept of it, so that threads may call it at once.
 pub fn check(bundle: &[u8]) -> Result<(), Refusal> {
     // Safe: place and length are those of a slice that is lent until the call is over, and the function only reads.
     match unsafe { raw::tt_check_bundle(bundle.as_ptr(), bundle.len()) } {
