@@ -68,7 +68,8 @@ fn all_present(
     true
 }
 
-// Whether the indices of tree n, below the root, are places in tables of these sizes. The last two parts are the root's.
+// Whether the indices of tree n, below the root, are places in tables of these sizes: the last two parts are the
+// root's.
 fn is_present(
     l: &[u32],
     n: usize,
