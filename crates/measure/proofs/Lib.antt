@@ -1,1 +1,2 @@
 pub mod SumReturns
+pub mod CursorReturns
