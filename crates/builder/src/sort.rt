@@ -5,7 +5,7 @@ ghost use Rattle.format.specs.Builder.{subAt};
 ghost use Rattle.format.specs.WordList.{listCount};
 
 // Whether tree n of the run is a subtree.
-pub fn is_subtree(list: &[u32], n: usize) -> bool
+pub(crate) fn is_subtree(list: &[u32], n: usize) -> bool
     requires { ⌜ n < listCount (now list) ⌝ }
     ensures { λ r. ⌜ r ≡ subAt (now (list .entry)) n ⌝ }
 {

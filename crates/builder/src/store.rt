@@ -8,7 +8,7 @@ ghost use Rattle.format.specs.WordList.{listCount};
 ghost use Rattle.builder.specs.Given.{wordsOf};
 ghost use Rattle.builder.specs.State.{closedAt};
 
-pub fn put_words(list: &mut [u32], at: usize, words: &[u32])
+pub(crate) fn put_words(list: &mut [u32], at: usize, words: &[u32])
     requires { ⌜ at + length (now words) ≤ length (now list) ⌝ }
     ensures { λ _. ⌜ now (list .exit) ≡ put (now (list .entry)) at (now (words .entry)) ⌝ }
 {
@@ -20,7 +20,7 @@ pub fn put_words(list: &mut [u32], at: usize, words: &[u32])
 }
 
 // The descendant count and the close span of tree m, and nothing else.
-pub fn close_tree(list: &mut [u32], m: usize, count: u32, closing: Span)
+pub(crate) fn close_tree(list: &mut [u32], m: usize, count: u32, closing: Span)
     requires { ⌜ m < listCount (now list) ⌝ }
     ensures { λ _. ⌜ now (list .exit) ≡ closedAt (now (list .entry)) m count (wordsOf closing) ⌝ }
 {

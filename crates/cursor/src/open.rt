@@ -93,7 +93,7 @@ pub fn cursor_row<'a>(
 }
 
 // Whether all that the last open subtree holds lies before the cursor.
-pub fn closes_last<'a>(at: At, numbers: &'a [u32; 256], counts: &'a [u32; 256]) -> bool
+pub(crate) fn closes_last<'a>(at: At, numbers: &'a [u32; 256], counts: &'a [u32; 256]) -> bool
     requires { ⌜ at .depth ≤ 256 ⌝ }
     ensures { λ r. ⌜ r ≡ closes (at .number) (now (numbers .entry)) (now (counts .entry)) (at .depth) ⌝ }
 {
@@ -109,7 +109,7 @@ pub fn closes_last<'a>(at: At, numbers: &'a [u32; 256], counts: &'a [u32; 256]) 
 }
 
 // Whether the tree `ahead` on lies in the list and in the last open subtree.
-pub fn lies_inside<'a>(
+pub(crate) fn lies_inside<'a>(
     trees: u32,
     at: At,
     ahead: u32,

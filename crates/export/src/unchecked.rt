@@ -16,7 +16,7 @@ ghost use Rattle.tree.specs.Types.{treeWordsOf};
 ghost use Rattle.tree.specs.declared.types.TokenTree.the-variants as trees;
 ghost use Rattle.export.specs.Cursors.{AnswerStored, BothStored, LeavesStored};
 
-pub fn store_words(words: &mut [u32], at: usize, from: [u32; 13])
+pub(crate) fn store_words(words: &mut [u32], at: usize, from: [u32; 13])
     requires { ⌜ at + 13 ≤ length (now words) ⌝ }
     ensures { λ _. ⌜ now (words .exit) ≡ put (now (words .entry)) at from ⌝ }
 {
@@ -28,7 +28,7 @@ pub fn store_words(words: &mut [u32], at: usize, from: [u32; 13])
 }
 
 // A byte place, a tree number, and a third number: the state of a walk or a cursor.
-pub fn store_state(next: &mut [usize], place: usize, number: u32, third: usize)
+pub(crate) fn store_state(next: &mut [usize], place: usize, number: u32, third: usize)
     requires { ⌜ 3 ≤ length (now next) ⌝ }
     ensures { λ _. ⌜ now (next .exit) ≡ put (now (next .entry)) 0 (place ∷ number ∷ third ∷ []) ⌝ }
 {
@@ -40,7 +40,7 @@ pub fn store_state(next: &mut [usize], place: usize, number: u32, third: usize)
 
 // ---- a cursor's answers
 
-pub fn store_answer(answer: Answer, at: At, next: &mut [usize], words: &mut [u32]) -> u64
+pub(crate) fn store_answer(answer: Answer, at: At, next: &mut [usize], words: &mut [u32]) -> u64
     requires { ⌜ (3 ≤ length (now next)) × (26 ≤ length (now words)) ⌝ }
     ensures { λ r. ⌜ AnswerStored answer at (now (next .entry)) (now (words .entry))
         r (now (next .exit)) (now (words .exit)) ⌝ }
@@ -90,7 +90,7 @@ fn store_both(leaves: [Ahead; 2], at: At, next: &mut [usize], words: &mut [u32])
     2
 }
 
-pub fn store_leaves(two: TwoLeaves, at: At, next: &mut [usize], words: &mut [u32]) -> u64
+pub(crate) fn store_leaves(two: TwoLeaves, at: At, next: &mut [usize], words: &mut [u32]) -> u64
     requires { ⌜ (3 ≤ length (now next)) × (26 ≤ length (now words)) ⌝ }
     ensures { λ r. ⌜ LeavesStored two at (now (next .entry)) (now (words .entry))
         r (now (next .exit)) (now (words .exit)) ⌝ }

@@ -8,7 +8,7 @@ ghost use Rattle.lister.specs.Ends.{Closed, Opens, Pushed};
 pub const MAX_DEPTH: usize = 256;
 
 // How many of them reach to tree n or past it.
-pub fn still_open(ends: &[u32; MAX_DEPTH], depth: usize, n: u32) -> usize
+pub(crate) fn still_open(ends: &[u32; MAX_DEPTH], depth: usize, n: u32) -> usize
     requires { ⌜ depth ≤ 256 ⌝ }
     ensures { λ r. ⌜ Closed (now (ends .entry)) depth n r ⌝ }
 {
@@ -23,7 +23,7 @@ pub fn still_open(ends: &[u32; MAX_DEPTH], depth: usize, n: u32) -> usize
 }
 
 // A subtree is opened behind tree n.
-pub fn open_tree(ends: &mut [u32; MAX_DEPTH], depth: usize, n: u32, tree: RawTree) -> usize
+pub(crate) fn open_tree(ends: &mut [u32; MAX_DEPTH], depth: usize, n: u32, tree: RawTree) -> usize
     requires { ⌜ Opens (now ends) depth n (rawOf tree) ⌝ }
     ensures { λ r. ⌜ Pushed (now (ends .entry)) depth n (rawOf tree) r (now (ends .exit)) ⌝ }
 {

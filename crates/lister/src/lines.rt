@@ -36,7 +36,7 @@ fn put_sort(out: &mut [u8], at: usize, tree: RawTree) -> usize
 }
 
 // Tree number, first byte, depth, sort.
-pub fn put_line(
+pub(crate) fn put_line(
     out: &mut [u8],
     at: usize,
     n: usize,
@@ -71,7 +71,7 @@ fn put_tables(out: &mut [u8], at: usize, parts: usize, symbols: usize) -> usize
     put_char(out, after_symbols, NEWLINE)
 }
 
-pub fn put_header(
+pub(crate) fn put_header(
     out: &mut [u8],
     at: usize,
     trees: usize,
@@ -87,7 +87,7 @@ pub fn put_header(
     put_tables(out, after_bytes, parts, symbols)
 }
 
-pub fn put_refusal(out: &mut [u8], at: usize, number: usize, tree: usize) -> usize
+pub(crate) fn put_refusal(out: &mut [u8], at: usize, number: usize, tree: usize) -> usize
     requires { ⌜ at ≤ length (now out) ⌝ }
     ensures { λ r. ⌜ Typed (now (out .entry)) at (refusalLine number tree) r (now (out .exit)) ⌝ }
 {

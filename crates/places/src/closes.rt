@@ -49,7 +49,7 @@ fn copy(a: &[u32], b: &mut [u32], m: usize)
 }
 
 // The close parts, where the open ones have their places.
-pub fn stream_closes(
+pub(crate) fn stream_closes(
     l: &[u32],
     parts: &[u32],
     g: usize,

@@ -86,7 +86,14 @@ fn look(t: &[u32], layout: Layout, base: usize, slots: &[u32], k: Key, start: us
 }
 
 // Looks for a key.
-pub fn find_key(t: &[u32], layout: Layout, base: usize, slots: &[u32], g: usize, k: Key) -> Looked
+pub(crate) fn find_key(
+    t: &[u32],
+    layout: Layout,
+    base: usize,
+    slots: &[u32],
+    g: usize,
+    k: Key,
+) -> Looked
     requires { ⌜ Loaded (now t) layout base g (now slots) ⌝ }
     ensures { λ r. ⌜ Finds (shift (keyAt (now (t .entry)) layout) base) g k r ⌝ }
 {
@@ -137,7 +144,7 @@ pub fn fill(t: &mut [u32], v: u32)
 }
 
 // The index of the g keys of t from `base` on.
-pub fn load(t: &[u32], layout: Layout, base: usize, slots: &mut [u32], g: usize)
+pub(crate) fn load(t: &[u32], layout: Layout, base: usize, slots: &mut [u32], g: usize)
     requires { ⌜ (base + g ≤ keyCount (now t) layout) × (g ≤ 2097152) ⌝ }
     requires { ⌜ (g ≤ length (now slots)) × (0 < length (now slots)) × (length (now slots) ≤ 1048576) ⌝ }
     ensures { λ _. ⌜ Loaded (now (t .entry)) layout base g (now (slots .exit)) ⌝ }
@@ -147,7 +154,7 @@ pub fn load(t: &[u32], layout: Layout, base: usize, slots: &mut [u32], g: usize)
 }
 
 // How many keys are entered at a time: at most half of the slots are taken, so that a search is short.
-pub fn portion_of(slots: usize) -> usize
+pub(crate) fn portion_of(slots: usize) -> usize
     requires { ⌜ (0 < slots) × (slots ≤ 1048576) ⌝ }
     ensures { λ r. ⌜ (r ≡ portion slots) × (0 < r) × (r ≤ slots) ⌝ }
 {

@@ -79,7 +79,7 @@ fn name_key(l: &[u32], i: usize) -> Key
     symbol_key(l[13 * i + 1])
 }
 
-pub fn key_at(t: &[u32], layout: Layout, i: usize) -> Key
+pub(crate) fn key_at(t: &[u32], layout: Layout, i: usize) -> Key
     requires { ⌜ i < keyCount (now t) layout ⌝ }
     ensures { λ r. ⌜ r ≡ keyAt (now (t .entry)) layout i ⌝ }
 {
@@ -93,7 +93,7 @@ pub fn key_at(t: &[u32], layout: Layout, i: usize) -> Key
 }
 
 // Key i from `base` on.
-pub fn key_from(t: &[u32], layout: Layout, base: usize, i: usize) -> Key
+pub(crate) fn key_from(t: &[u32], layout: Layout, base: usize, i: usize) -> Key
     requires { ⌜ base + i < keyCount (now t) layout ⌝ }
     ensures { λ r. ⌜ r ≡ shift (keyAt (now (t .entry)) layout) base i ⌝ }
 {

@@ -207,7 +207,7 @@ fn place_keys(
 }
 
 // The first places among n entries of the keys of m trees.
-pub fn place_run(
+pub(crate) fn place_run(
     t: &[u32],
     table: Layout,
     n: usize,

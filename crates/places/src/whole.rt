@@ -164,7 +164,7 @@ fn put(
     syms[i] = x.symbol;
 }
 
-pub fn resolve_whole(
+pub(crate) fn resolve_whole(
     l: &[u32],
     parts: &[u32],
     symbols: &[u32],

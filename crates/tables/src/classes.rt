@@ -147,7 +147,7 @@ fn by_class(
 }
 
 // The pairs, with as many classes as it takes, up to 256.
-pub fn by_classes(
+pub(crate) fn by_classes(
     l: &[u32],
     symbols: bool,
     n: usize,
@@ -207,7 +207,7 @@ fn count_by_class(l: &[u32], symbols: bool, n: usize, classes: usize) -> usize
     p
 }
 
-pub fn count_by_classes(l: &[u32], symbols: bool, n: usize) -> usize
+pub(crate) fn count_by_classes(l: &[u32], symbols: bool, n: usize) -> usize
     requires { ⌜ (n ≡ keyCount (now l) symbols) × (n < 4294967295) ⌝ }
     ensures { λ r. ⌜ NumberIf (now (l .entry)) symbols r ⌝ }
 {

@@ -154,7 +154,7 @@ fn is_ample(symbols: bool, p: usize, more: usize, words: usize, tallies: usize) 
 }
 
 // The same for the keys of a list. Where there is room for as many as there can be, they are not counted.
-pub fn has_room(l: &[u32], symbols: bool, more: usize, words: usize, tallies: usize) -> bool
+pub(crate) fn has_room(l: &[u32], symbols: bool, more: usize, words: usize, tallies: usize) -> bool
     requires { ⌜ (keyCount (now l) symbols < 4294967295) × (more < 4294967295) ⌝ }
     ensures { λ r. ⌜ r ≡ ample symbols (length (keysOf (now (l .entry)) symbols)) more words tallies ⌝ }
 {

@@ -234,7 +234,7 @@ fn stretch_end(t: usize, trees: usize) -> usize
 }
 
 // Enters all n keys, stretch by stretch.
-pub fn gather(
+pub(crate) fn gather(
     l: &[u32],
     symbols: bool,
     classes: usize,

@@ -39,7 +39,7 @@ pub fn set_at(run: &mut [u32], i: usize, x: u32)
 }
 
 // One more at i, where there is such a place.
-pub fn raise(run: &mut [u32], i: usize)
+pub(crate) fn raise(run: &mut [u32], i: usize)
     requires { ⌜ getD (now run) i 0 < 4294967295 ⌝ }
     ensures { λ _. ⌜ now (run .exit) ≡ set (now (run .entry)) i (getD (now (run .entry)) i 0 + 1) ⌝ }
 {
@@ -80,7 +80,7 @@ fn sort_of(l: &[u32], n: usize) -> u32
 }
 
 // Whether number v is a key.
-pub fn live(l: &[u32], symbols: bool, v: usize) -> bool
+pub(crate) fn live(l: &[u32], symbols: bool, v: usize) -> bool
     requires { ⌜ (v < keyCount (now l) symbols) × (v < 4294967295) ⌝ }
     ensures { λ r. ⌜ r ≡ liveAt (now (l .entry)) symbols v ⌝ }
 {
@@ -104,7 +104,7 @@ pub fn live(l: &[u32], symbols: bool, v: usize) -> bool
 }
 
 // Whether two keys are the same.
-pub fn alike(l: &[u32], symbols: bool, u: usize, v: usize) -> bool
+pub(crate) fn alike(l: &[u32], symbols: bool, u: usize, v: usize) -> bool
     requires { ⌜ (u < keyCount (now l) symbols) × (u < 4294967295) ⌝ }
     requires { ⌜ (v < keyCount (now l) symbols) × (v < 4294967295) ⌝ }
     ensures { λ r. ⌜ r ≡ alikeAt (now (l .entry)) symbols u v ⌝ }
@@ -145,7 +145,7 @@ fn mix(a: u32, b: u32, c: u32, size: usize) -> usize
 }
 
 // The slot where key v is looked for first.
-pub fn slot(l: &[u32], symbols: bool, v: usize, size: usize) -> usize
+pub(crate) fn slot(l: &[u32], symbols: bool, v: usize, size: usize) -> usize
     requires { ⌜ (v < keyCount (now l) symbols) × (v < 4294967295) × (0 < size) × (size ≤ 1048576) ⌝ }
     ensures { λ r. ⌜ (r ≡ slotOf (now (l .entry)) symbols size v) × (r < size) ⌝ }
 {
@@ -178,7 +178,7 @@ fn is_in_class(l: &[u32], symbols: bool, classes: usize, class: usize, v: usize)
 }
 
 // Whether number v is a key of the class.
-pub fn live_in(l: &[u32], symbols: bool, classes: usize, class: usize, v: usize) -> bool
+pub(crate) fn live_in(l: &[u32], symbols: bool, classes: usize, class: usize, v: usize) -> bool
     requires { ⌜ (v < keyCount (now l) symbols) × (v < 4294967295) × (classes ≤ 1048576) ⌝ }
     ensures { λ r. ⌜ r ≡ liveIn (now (l .entry)) symbols classes class v ⌝ }
 {
@@ -193,7 +193,7 @@ pub fn live_in(l: &[u32], symbols: bool, classes: usize, class: usize, v: usize)
 }
 
 // The word where key k begins in a run of keys.
-pub fn place_in(symbols: bool, k: usize) -> usize
+pub(crate) fn place_in(symbols: bool, k: usize) -> usize
     requires { ⌜ k < 4294967295 ⌝ }
     ensures { λ r. ⌜ (r ≡ placeIn symbols k) × (r ≤ 3 * k) ⌝ }
 {
@@ -224,7 +224,7 @@ pub fn level_after(n: usize) -> usize
 }
 
 // Stores key v as the k-th of a run.
-pub fn put_key(l: &[u32], symbols: bool, v: usize, out: &mut [u32], k: usize)
+pub(crate) fn put_key(l: &[u32], symbols: bool, v: usize, out: &mut [u32], k: usize)
     requires { ⌜ (v < keyCount (now l) symbols) × (v < 4294967295) × (k < 4294967295) ⌝ }
     ensures { λ _. ⌜ now (out .exit) ≡ sets (now (out .entry)) (placeIn symbols k)
         (keyWords (now (l .entry)) symbols v) ⌝ }

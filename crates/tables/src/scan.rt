@@ -79,7 +79,13 @@ fn scan_one(
 }
 
 // The answer is how many keys there are.
-pub fn scan(l: &[u32], symbols: bool, n: usize, words: &mut [u32], tallies: &mut [u32]) -> usize
+pub(crate) fn scan(
+    l: &[u32],
+    symbols: bool,
+    n: usize,
+    words: &mut [u32],
+    tallies: &mut [u32],
+) -> usize
     requires { ⌜ (n ≡ keyCount (now l) symbols) × (n < 4294967295) ⌝ }
     requires { ⌜ Room (now l) symbols (now words) (now tallies) ⌝ }
     ensures { λ r. ⌜ Scanned (now (l .entry)) symbols n r

@@ -11,7 +11,7 @@ ghost use Rattle.tables.specs.Keys.{liveIn};
 ghost use Rattle.tables.specs.Select.{numberOf, Selected};
 
 // The first number of the t-th tree below the root.
-pub fn number(symbols: bool, t: usize) -> usize
+pub(crate) fn number(symbols: bool, t: usize) -> usize
     requires { ⌜ t < 4294967295 ⌝ }
     ensures { λ r. ⌜ r ≡ numberOf symbols t ⌝ }
 {
@@ -103,7 +103,7 @@ fn select_parts(l: &[u32], t: usize, end: usize, chosen: &mut [u32]) -> usize
 }
 
 // The keys of the trees from the t-th to before another.
-pub fn select(
+pub(crate) fn select(
     l: &[u32],
     symbols: bool,
     classes: usize,

@@ -43,7 +43,7 @@ fn expand(l: &[u32], symbols: bool, p: usize, words: &mut [u32], tallies: &[u32]
     }
 }
 
-pub fn settle(l: &[u32], symbols: bool, p: usize, words: &mut [u32], tallies: &mut [u32])
+pub(crate) fn settle(l: &[u32], symbols: bool, p: usize, words: &mut [u32], tallies: &mut [u32])
     requires { ⌜ (p < 4294967295) × (keyCount (now l) symbols < 4294967295) ⌝ }
     requires { ⌜ Paired (now l) symbols p (now words) (now tallies)
         × Room (now l) symbols (now words) (now tallies) ⌝ }

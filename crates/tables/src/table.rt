@@ -262,7 +262,7 @@ fn tries(
 }
 
 // The table of one kind of keys. The answer is the number of keys.
-pub fn make_table(l: &[u32], symbols: bool, words: &mut [u32], tallies: &mut [u32]) -> usize
+pub(crate) fn make_table(l: &[u32], symbols: bool, words: &mut [u32], tallies: &mut [u32]) -> usize
     requires { ⌜ keyCount (now l) symbols < 4294967295 ⌝ }
     requires { ⌜ Room (now l) symbols (now words) (now tallies) ⌝ }
     ensures { λ r. ⌜ r < 4294967295 ⌝ }

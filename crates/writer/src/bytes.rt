@@ -62,7 +62,7 @@ fn put_at(
 }
 
 // Writes a run. The tables are those that its indices are places in.
-pub fn put_run(
+pub(crate) fn put_run(
     l: &[u32],
     parts: &[u32],
     symbols: &[u32],
@@ -196,7 +196,7 @@ fn root_of(l: &[u32], parts: usize) -> RawSubtree
 }
 
 // Writes the root. The symbols are those of the list.
-pub fn put_root(l: &[u32], parts: &[u32], symbols: &[u32], work: &[u32], out: &mut [u8])
+pub(crate) fn put_root(l: &[u32], parts: &[u32], symbols: &[u32], work: &[u32], out: &mut [u8])
     requires { ⌜ Passed (now parts) (now symbols) (now l) ⌝ }
     requires { ⌜ Sized (now parts) (now symbols) (now l) 0 (now work) ⌝ }
     requires { ⌜ sizeFrom (now parts) (now symbols) (now l) 0 ≤ length (now out) ⌝ }
@@ -208,7 +208,7 @@ pub fn put_root(l: &[u32], parts: &[u32], symbols: &[u32], work: &[u32], out: &m
 }
 
 // The whole output: the root, then the trees below it.
-pub fn put_list(
+pub(crate) fn put_list(
     l: &[u32],
     parts: &[u32],
     symbols: &[u32],

@@ -35,7 +35,7 @@ fn is_part(parts: &[u32], i: usize, l: &[u32], at: usize) -> bool
 }
 
 // Whether the last two parts are the root's.
-pub fn root_present(l: &[u32], parts: &[u32]) -> bool
+pub(crate) fn root_present(l: &[u32], parts: &[u32]) -> bool
     requires { ⌜ (1 ≤ listCount (now l)) × (2 ≤ length (now parts) / 3) ⌝ }
     ensures { λ r. ⌜ r ≡ present (now (parts .entry)) [] (now (l .entry)) 0 ⌝ }
 {
@@ -106,7 +106,7 @@ fn is_present(
 }
 
 // The first tree of a run with a part or a symbol that has no place, or the end of the run.
-pub fn first_absent(
+pub(crate) fn first_absent(
     l: &[u32],
     parts: &[u32],
     symbols: &[u32],
@@ -133,7 +133,7 @@ pub fn first_absent(
 }
 
 // The end of the run that begins at tree n: as many trees as there are indices for, as far as the list goes.
-pub fn run_end(n: usize, room: usize, count: usize) -> usize
+pub(crate) fn run_end(n: usize, room: usize, count: usize) -> usize
     requires { ⌜ (n < count) × (1 ≤ room) ⌝ }
     ensures { λ r. ⌜ (n < r) × (r ≤ count) × (r ≤ n + room) ⌝ }
 {
@@ -189,7 +189,7 @@ fn search_run(
 }
 
 // Row 5 below the root.
-pub fn row_five(
+pub(crate) fn row_five(
     l: &[u32],
     parts: &[u32],
     symbols: &[u32],

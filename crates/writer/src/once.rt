@@ -148,7 +148,7 @@ fn write_run(
 }
 
 // Finds the indices, then writes.
-pub fn write_once(
+pub(crate) fn write_once(
     l: &[u32],
     parts: &[u32],
     symbols: &[u32],

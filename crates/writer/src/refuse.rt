@@ -17,7 +17,7 @@ pub fn refuse(number: u32) -> Report
 }
 
 // Row `number` at tree n.
-pub fn refuse_at(number: u32, n: usize) -> Report
+pub(crate) fn refuse_at(number: u32, n: usize) -> Report
     requires { ⌜ n < 4294967296 ⌝ }
     ensures { λ r. ⌜ r ≡ reportAnswer (refusal number n) ⌝ }
 {

@@ -16,7 +16,7 @@ ghost use Rattle.writer.specs.Written.{Passed};
 const ROOT_BYTES: u32 = 33;
 
 // The bytes of the descendants of tree n, by the work words behind it.
-pub fn children_of(l: &[u32], n: usize, work: &[u32]) -> ChildrenBytes
+pub(crate) fn children_of(l: &[u32], n: usize, work: &[u32]) -> ChildrenBytes
     requires { ⌜ Spanned (now l) n (now work) ⌝ }
     ensures { λ r. ⌜ r ≡ record { 0 = childrenIn (now (l .entry)) n (now (work .entry)) } ⌝ }
 {
@@ -46,7 +46,7 @@ fn size_at(
 }
 
 // The work words of a run. The tables are those that its indices are places in.
-pub fn size_run(
+pub(crate) fn size_run(
     l: &[u32],
     parts: &[u32],
     symbols: &[u32],
@@ -162,7 +162,7 @@ fn size_all(
 }
 
 // The work word of the root, which has a size of its own.
-pub fn size_root(l: &[u32], parts: &[u32], symbols: &[u32], work: &mut [u32])
+pub(crate) fn size_root(l: &[u32], parts: &[u32], symbols: &[u32], work: &mut [u32])
     requires { ⌜ Passed (now parts) (now symbols) (now l) ⌝ }
     requires { ⌜ Sized (now parts) (now symbols) (now l) 1 (now work) ⌝ }
     ensures { λ _. ⌜ Sized (now (parts .entry)) (now (symbols .entry)) (now (l .entry)) 0 (now (work .exit)) ⌝ }
@@ -172,7 +172,7 @@ pub fn size_root(l: &[u32], parts: &[u32], symbols: &[u32], work: &mut [u32])
 }
 
 // All work words: 0 behind the last tree, the total at the root.
-pub fn fill_work(
+pub(crate) fn fill_work(
     l: &[u32],
     parts: &[u32],
     symbols: &[u32],
