@@ -113,10 +113,10 @@ fn root(trees: usize) {
 }
 
 pub fn run() {
-    for trees in [1_000, 30_000] {
+    for trees in [1_000, 30_000, 200_000, 1_048_576] {
         builder(trees);
     }
-    for trees in [1_000, 30_000] {
+    for trees in [1_000, 30_000, 200_000, 1_048_576] {
         root(trees);
     }
 }

@@ -108,9 +108,7 @@ pub fn run() {
     for trees in [1_000, 30_000, 200_000, 1_048_576] {
         for (tables, parts, symbols) in [("few", 12, 400), ("many", 20_000, 60_000)] {
             one(&Shape { trees, parts, symbols, wrap: 60_000 }, &format!("{trees} trees, {tables} entries"));
-            if trees > 30_000 {
-                one(&Shape { trees, parts, symbols, wrap: u32::MAX }, &format!("{trees} trees, {tables} entries, growing starts"));
-            }
+            one(&Shape { trees, parts, symbols, wrap: u32::MAX }, &format!("{trees} trees, {tables} entries, growing starts"));
         }
     }
 }
