@@ -1,11 +1,11 @@
 -- One law for each return of the functions that pack, with premises as the code's tests and calls give them.
 use Prim.Native.Nat.{ℕ, _+_, _-_, _<_, _≤_}
-use mathlib.Core.Bool.{Bool, true, false, _&&_}
+use mathlib.Core.Bool.{Bool, true, false, not, _&&_}
 use mathlib.Core.Path.{_≡_, refl, sym, ap, _∙_}
 use mathlib.Core.List.{List, _++_}
 use native.Mathlib.Omega.{arith}
-use borrow.Author.Tests.{lt-ltb, le-ltb, le-leb, lt-leb, ltb-true}
-use lib.Dec.{ltb}
+use borrow.Author.Tests.{lt-ltb, le-ltb, le-leb, lt-leb, ltb-true, not-true, not-false}
+use lib.Dec.{ltb, leb}
 use lib.ListN.{length}
 use Rattle.format.specs.Word.{wordBytes, put}
 use Rattle.format.specs.Span.{Span}
@@ -99,32 +99,37 @@ pub ruleset pack-form-cases = (extended-index, extended-start, extended-len, for
 
 -- ---- the refusals
 
+module _ (s l : ℕ) where
+  pub range-out : 4294967295 - s < l → false ≡ leb (s + l) 4294967295
+  range-out h = sym (lt-leb (s + l) 4294967295 (omega arith))
+
+  pub range-in : s < 4294967296 → l ≤ 4294967295 - s → true ≡ leb (s + l) 4294967295
+  range-in g h = sym (le-leb (s + l) 4294967295 (omega arith))
+
+pub ruleset range-cases = (range-out, range-in)
+
 module _ (b : List ℕ) (at x : ℕ) (s : Span) (heavy : Bool) where
   pub extra-2 : 3 < x → SpanPacked b at heavy x s (Refused 2) b
   unfolding packedAnswer
   extra-2 h = record { answer = simp (lt-leb _ _ h); contents = simp (lt-leb _ _ h) }
 
-  module _ (h₁ : x ≤ 3) where
-    pub end-2 : 4294967295 - s .start < s .len → SpanPacked b at heavy x s (Refused 2) b
+  module _ (h₁ : x ≤ 3) (f : Bool) (e : f ≡ leb (s .start + s .len) 4294967295) where
+    pub end-2 : not f ≡ true → SpanPacked b at heavy x s (Refused 2) b
     unfolding packedAnswer
     end-2 h =
-        let k : 4294967295 < s .start + s .len = omega arith in
-        record { answer = simp (le-leb _ _ h₁, lt-leb _ _ k); contents = simp (le-leb _ _ h₁, lt-leb _ _ k) }
+        let k : leb (s .start + s .len) 4294967295 ≡ false = sym e ∙ not-true f h in
+        record { answer = simp (le-leb _ _ h₁, k); contents = simp (le-leb _ _ h₁, k) }
 
-    module _ (hs : s .start < 4294967296) (h₂ : s .len ≤ 4294967295 - s .start) where
+    module _ (h₂ : not f ≡ false) where
+      k : leb (s .start + s .len) 4294967295 ≡ true
+      k = sym e ∙ not-false f h₂
+
       pub index-8 : 268435456 ≤ s .index → SpanPacked b at heavy x s (Refused 8) b
       unfolding packedAnswer
-      index-8 h =
-          let k : s .start + s .len ≤ 4294967295 = omega arith in
-          record { answer = simp (le-leb _ _ h₁, le-leb _ _ k, le-ltb _ _ h); contents = simp (le-leb _ _ h₁, le-leb _ _ k, le-ltb _ _ h) }
+      index-8 h = record { answer = simp (le-leb _ _ h₁, k, le-ltb _ _ h); contents = simp (le-leb _ _ h₁, k, le-ltb _ _ h) }
 
       pub span-form : s .index < 268435456 → (r : Packed) (b′ : List ℕ) → Stored b at (spanForm heavy x s) r b′ → SpanPacked b at heavy x s r b′
-      span-form h r b′ p =
-          let k : s .start + s .len ≤ 4294967295 = omega arith in
-          record {
-            answer = simp (le-leb _ _ h₁, le-leb _ _ k, lt-ltb _ _ h) (p .answer);
-            contents = simp (le-leb _ _ h₁, le-leb _ _ k, lt-ltb _ _ h) (p .contents);
-          }
+      span-form h r b′ p = record { answer = simp (le-leb _ _ h₁, k, lt-ltb _ _ h) (p .answer); contents = simp (le-leb _ _ h₁, k, lt-ltb _ _ h) (p .contents) }
 
 pub ruleset encode-span-cases = (extra-2, end-2, index-8, span-form)
 

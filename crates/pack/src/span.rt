@@ -6,6 +6,7 @@ use crate::unchecked::word_at;
 ghost use mathlib.Core.Path.{_≡_};
 ghost use Prim.Native.Nat.{_+_, _≤_, _<_};
 ghost use lib.ListN.{length};
+ghost use lib.Dec.{leb};
 ghost use Rattle.format.specs.Word.{wordBytes};
 ghost use Rattle.format.specs.Span.{span₁, span₂, span₃, spanAt};
 ghost use Rattle.format.specs.Write.{firstWord, secondWord, heavySecond, heavyThird, heavyBytes};
@@ -232,6 +233,16 @@ fn pack_form(out: &mut [u8], at: usize, span: PackedSpan, extra: u32, heavy: boo
     pack_heavy(out, at, span, extra)
 }
 
+// Row 2 of a span: start + length is at most 4,294,967,295.
+pub fn range_fits(start: u32, len: u32) -> bool
+    ensures { λ r. ⌜ r ≡ leb (start + len) 4294967295 ⌝ }
+{
+    if 4294967295 - start < len {
+        return false;
+    }
+    true
+}
+
 // Packs a span at a place in its smallest form, or in the largest where that is forced.
 pub fn encode_span_no_map(
     out: &mut [u8],
@@ -245,7 +256,7 @@ pub fn encode_span_no_map(
     if 3 < extra {
         return Packed::Refused(2);
     }
-    if 4294967295 - span.start < span.len {
+    if !range_fits(span.start, span.len) {
         return Packed::Refused(2);
     }
     if 268435456 <= span.index {

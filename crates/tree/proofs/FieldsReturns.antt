@@ -17,13 +17,6 @@ use Rattle.tree.specs.declared.raw.RawSubtree.{RawSubtree}
 use Rattle.tree.specs.declared.raw.RawTree.{RawTree}
 use Rattle.tree.specs.declared.raw.RawTree.the-variants.{Punct, Ident, Literal, Subtree}
 
-module _ (s : Span) where
-  pub span-over : 4294967295 - s .start < s .len → false ≡ spanFits s
-  span-over h = let k : 4294967295 < s .start + s .len = omega arith in simp (lt-leb _ _ k)
-
-  pub span-ok : s .start < 4294967296 → s .len ≤ 4294967295 - s .start → true ≡ spanFits s
-  span-ok g h = let k : s .start + s .len ≤ 4294967295 = omega arith in simp (le-leb _ _ k)
-
 module _ (c : ℕ) where
   pub scalar-low : c ≤ 0xD7FF → true ≡ isScalar c
   scalar-low h = simp (le-leb _ _ h)
@@ -176,7 +169,7 @@ module _ (t : RawTree) (y : Bool) where
   unfolding rawOf
   fits-subtree p e q = q ∙ rw e
 
-pub ruleset field-cases = (span-over, span-ok, scalar-low, scalar-gap, scalar-past, scalar-high, zero-is, zero-not, kind-5, kind-7, kind-9, kind-other, count-none, count-over, count-ok)
+pub ruleset field-cases = (scalar-low, scalar-gap, scalar-past, scalar-high, zero-is, zero-not, kind-5, kind-7, kind-9, kind-other, count-none, count-over, count-ok)
 
 pub ruleset sort-cases = (punct-span, punct-char, punct-spacing, punct-ok, ident-span, ident-raw, ident-ok, literal-span, literal-kind, literal-count, literal-suffix, literal-ok, open-over, close-over, subtree-kind, subtree-ok)
 

@@ -1,8 +1,9 @@
 -- One law for each return of the functions of src/kinds.rt, with premises as the code's tests and calls give them.
-use Prim.Native.Nat.{ℕ, _+_, _*_}
-use mathlib.Core.Path.{_≡_, _∙_}
-use borrow.Author.Tests.{ne-eqb}
-use Rattle.tree.specs.Types.{spacingOf, isRawOf, delimiterOf, litKindOf, spacingWord, isRawWord, delimiterWord, litKindWord}
+use Prim.Native.Nat.{ℕ, zero, suc, _+_, _*_}
+use mathlib.Core.Path.{_≡_, refl, _∙_}
+use native.Mathlib.Omega.{arith}
+use borrow.Author.Tests.{lt-leb}
+use Rattle.tree.specs.Types.{spacingOf, isRawOf, delimiterOf, litKindOf, spacingAnswer, isRawAnswer, delimiterAnswer, litKindAnswer, spacingWord, isRawWord, delimiterWord, litKindWord}
 use Rattle.tree.specs.declared.types.Spacing.{Spacing}
 use Rattle.tree.specs.declared.types.Spacing.the-variants.{Alone, Joint, JointHidden}
 use Rattle.tree.specs.declared.types.IdentIsRaw.{IdentIsRaw}
@@ -11,93 +12,133 @@ use Rattle.tree.specs.declared.types.DelimiterKind.{DelimiterKind}
 use Rattle.tree.specs.declared.types.DelimiterKind.the-variants.{Parenthesis, Brace, Bracket, Invisible}
 use Rattle.tree.specs.declared.types.LitKind.{LitKind}
 use Rattle.tree.specs.declared.types.LitKind.the-variants.{Byte, Char, Integer, Float, Str, StrRaw, ByteStr, ByteStrRaw, CStr, CStrRaw, Err}
+use Rattle.tree.specs.declared.kinds.SpacingRead.the-variants as spacings
+use Rattle.tree.specs.declared.kinds.IsRawRead.the-variants as raws
+use Rattle.tree.specs.declared.kinds.DelimiterRead.the-variants as delimiters
+use Rattle.tree.specs.declared.kinds.LitKindRead.the-variants as kinds
 
 -- ---- kinds of numbers
 
 module _ (x : ℕ) where
-  pub spacing-0 : x ≡ 0 → Alone ≡ spacingOf x
-  unfolding spacingOf
+  pub spacing-0 : x ≡ 0 → spacings.Got Alone ≡ spacingAnswer x
+  unfolding spacingAnswer spacingOf
   spacing-0 h = rw h
 
-  pub spacing-1 : x ≡ 1 → Joint ≡ spacingOf x
-  unfolding spacingOf
+  pub spacing-1 : x ≡ 1 → spacings.Got Joint ≡ spacingAnswer x
+  unfolding spacingAnswer spacingOf
   spacing-1 h = rw h
 
-  pub spacing-2 : (x ≡ 0 → ⊥) → (x ≡ 1 → ⊥) → JointHidden ≡ spacingOf x
-  unfolding spacingOf
-  spacing-2 f g = simp (ne-eqb _ _ f, ne-eqb _ _ g)
+  pub spacing-2 : x ≡ 2 → spacings.Got JointHidden ≡ spacingAnswer x
+  unfolding spacingAnswer spacingOf
+  spacing-2 h = rw h
 
-  pub raw-0 : x ≡ 0 → No ≡ isRawOf x
-  unfolding isRawOf
+  pub raw-0 : x ≡ 0 → raws.Got No ≡ isRawAnswer x
+  unfolding isRawAnswer isRawOf
   raw-0 h = rw h
 
-  pub raw-1 : (x ≡ 0 → ⊥) → Yes ≡ isRawOf x
-  unfolding isRawOf
-  raw-1 f = simp (ne-eqb _ _ f)
+  pub raw-1 : x ≡ 1 → raws.Got Yes ≡ isRawAnswer x
+  unfolding isRawAnswer isRawOf
+  raw-1 h = rw h
 
-  pub delimiter-0 : x ≡ 0 → Parenthesis ≡ delimiterOf x
-  unfolding delimiterOf
+  pub delimiter-0 : x ≡ 0 → delimiters.Got Parenthesis ≡ delimiterAnswer x
+  unfolding delimiterAnswer delimiterOf
   delimiter-0 h = rw h
 
-  pub delimiter-1 : x ≡ 1 → Brace ≡ delimiterOf x
-  unfolding delimiterOf
+  pub delimiter-1 : x ≡ 1 → delimiters.Got Brace ≡ delimiterAnswer x
+  unfolding delimiterAnswer delimiterOf
   delimiter-1 h = rw h
 
-  pub delimiter-2 : x ≡ 2 → Bracket ≡ delimiterOf x
-  unfolding delimiterOf
+  pub delimiter-2 : x ≡ 2 → delimiters.Got Bracket ≡ delimiterAnswer x
+  unfolding delimiterAnswer delimiterOf
   delimiter-2 h = rw h
 
-  pub delimiter-3 : (x ≡ 0 → ⊥) → (x ≡ 1 → ⊥) → (x ≡ 2 → ⊥) → Invisible ≡ delimiterOf x
-  unfolding delimiterOf
-  delimiter-3 f g h = simp (ne-eqb _ _ f, ne-eqb _ _ g, ne-eqb _ _ h)
+  pub delimiter-3 : x ≡ 3 → delimiters.Got Invisible ≡ delimiterAnswer x
+  unfolding delimiterAnswer delimiterOf
+  delimiter-3 h = rw h
+
+-- past the last kind
+pub spacing-bad : (x : ℕ) → (x ≡ 0 → ⊥) → (x ≡ 1 → ⊥) → (x ≡ 2 → ⊥) → spacings.Bad 2 ≡ spacingAnswer x
+unfolding spacingAnswer
+spacing-bad zero h₀ h₁ h₂ = absurd (h₀ refl)
+spacing-bad (suc zero) h₀ h₁ h₂ = absurd (h₁ refl)
+spacing-bad (suc (suc zero)) h₀ h₁ h₂ = absurd (h₂ refl)
+spacing-bad (suc (suc (suc x))) h₀ h₁ h₂ = simp (lt-leb (suc (suc (suc x))) 2 (omega arith))
+
+pub raw-bad : (x : ℕ) → (x ≡ 0 → ⊥) → (x ≡ 1 → ⊥) → raws.Bad 2 ≡ isRawAnswer x
+unfolding isRawAnswer
+raw-bad zero h₀ h₁ = absurd (h₀ refl)
+raw-bad (suc zero) h₀ h₁ = absurd (h₁ refl)
+raw-bad (suc (suc x)) h₀ h₁ = simp (lt-leb (suc (suc x)) 1 (omega arith))
+
+pub delimiter-bad : (x : ℕ) → (x ≡ 0 → ⊥) → (x ≡ 1 → ⊥) → (x ≡ 2 → ⊥) → (x ≡ 3 → ⊥) → delimiters.Bad 2 ≡ delimiterAnswer x
+unfolding delimiterAnswer
+delimiter-bad zero h₀ h₁ h₂ h₃ = absurd (h₀ refl)
+delimiter-bad (suc zero) h₀ h₁ h₂ h₃ = absurd (h₁ refl)
+delimiter-bad (suc (suc zero)) h₀ h₁ h₂ h₃ = absurd (h₂ refl)
+delimiter-bad (suc (suc (suc zero))) h₀ h₁ h₂ h₃ = absurd (h₃ refl)
+delimiter-bad (suc (suc (suc (suc x)))) h₀ h₁ h₂ h₃ = simp (lt-leb (suc (suc (suc (suc x)))) 3 (omega arith))
 
 module _ (k r : ℕ) where
-  pub kind-0 : k ≡ 0 → Byte ≡ litKindOf k r
-  unfolding litKindOf
+  pub kind-0 : k ≡ 0 → kinds.Got Byte ≡ litKindAnswer k r
+  unfolding litKindAnswer litKindOf
   kind-0 h = rw h
 
-  pub kind-1 : k ≡ 1 → Char ≡ litKindOf k r
-  unfolding litKindOf
+  pub kind-1 : k ≡ 1 → kinds.Got Char ≡ litKindAnswer k r
+  unfolding litKindAnswer litKindOf
   kind-1 h = rw h
 
-  pub kind-2 : k ≡ 2 → Integer ≡ litKindOf k r
-  unfolding litKindOf
+  pub kind-2 : k ≡ 2 → kinds.Got Integer ≡ litKindAnswer k r
+  unfolding litKindAnswer litKindOf
   kind-2 h = rw h
 
-  pub kind-3 : k ≡ 3 → Float ≡ litKindOf k r
-  unfolding litKindOf
+  pub kind-3 : k ≡ 3 → kinds.Got Float ≡ litKindAnswer k r
+  unfolding litKindAnswer litKindOf
   kind-3 h = rw h
 
-  pub kind-4 : k ≡ 4 → Str ≡ litKindOf k r
-  unfolding litKindOf
+  pub kind-4 : k ≡ 4 → kinds.Got Str ≡ litKindAnswer k r
+  unfolding litKindAnswer litKindOf
   kind-4 h = rw h
 
-  pub kind-5 : k ≡ 5 → StrRaw r ≡ litKindOf k r
-  unfolding litKindOf
+  pub kind-5 : k ≡ 5 → kinds.Got (StrRaw r) ≡ litKindAnswer k r
+  unfolding litKindAnswer litKindOf
   kind-5 h = rw h
 
-  pub kind-6 : k ≡ 6 → ByteStr ≡ litKindOf k r
-  unfolding litKindOf
+  pub kind-6 : k ≡ 6 → kinds.Got ByteStr ≡ litKindAnswer k r
+  unfolding litKindAnswer litKindOf
   kind-6 h = rw h
 
-  pub kind-7 : k ≡ 7 → ByteStrRaw r ≡ litKindOf k r
-  unfolding litKindOf
+  pub kind-7 : k ≡ 7 → kinds.Got (ByteStrRaw r) ≡ litKindAnswer k r
+  unfolding litKindAnswer litKindOf
   kind-7 h = rw h
 
-  pub kind-8 : k ≡ 8 → CStr ≡ litKindOf k r
-  unfolding litKindOf
+  pub kind-8 : k ≡ 8 → kinds.Got CStr ≡ litKindAnswer k r
+  unfolding litKindAnswer litKindOf
   kind-8 h = rw h
 
-  pub kind-9 : k ≡ 9 → CStrRaw r ≡ litKindOf k r
-  unfolding litKindOf
+  pub kind-9 : k ≡ 9 → kinds.Got (CStrRaw r) ≡ litKindAnswer k r
+  unfolding litKindAnswer litKindOf
   kind-9 h = rw h
 
-  pub kind-else : (k ≡ 0 → ⊥) → (k ≡ 1 → ⊥) → (k ≡ 2 → ⊥) → (k ≡ 3 → ⊥) → (k ≡ 4 → ⊥) → (k ≡ 5 → ⊥) → (k ≡ 6 → ⊥) → (k ≡ 7 → ⊥) → (k ≡ 8 → ⊥) → (k ≡ 9 → ⊥) → Err ≡ litKindOf k r
-  unfolding litKindOf
-  kind-else h₀ h₁ h₂ h₃ h₄ h₅ h₆ h₇ h₈ h₉ =
-      simp (ne-eqb _ _ h₀, ne-eqb _ _ h₁, ne-eqb _ _ h₂, ne-eqb _ _ h₃, ne-eqb _ _ h₄, ne-eqb _ _ h₅, ne-eqb _ _ h₆, ne-eqb _ _ h₇, ne-eqb _ _ h₈, ne-eqb _ _ h₉)
+  pub kind-10 : k ≡ 10 → kinds.Got Err ≡ litKindAnswer k r
+  unfolding litKindAnswer litKindOf
+  kind-10 h = rw h
 
-pub ruleset number-cases = (spacing-0, spacing-1, spacing-2, raw-0, raw-1, delimiter-0, delimiter-1, delimiter-2, delimiter-3, kind-0, kind-1, kind-2, kind-3, kind-4, kind-5, kind-6, kind-7, kind-8, kind-9, kind-else)
+pub kind-bad : (k r : ℕ) → (k ≡ 0 → ⊥) → (k ≡ 1 → ⊥) → (k ≡ 2 → ⊥) → (k ≡ 3 → ⊥) → (k ≡ 4 → ⊥) → (k ≡ 5 → ⊥) → (k ≡ 6 → ⊥) → (k ≡ 7 → ⊥) → (k ≡ 8 → ⊥) → (k ≡ 9 → ⊥) → (k ≡ 10 → ⊥) → kinds.Bad 2 ≡ litKindAnswer k r
+unfolding litKindAnswer
+kind-bad zero r h₀ h₁ h₂ h₃ h₄ h₅ h₆ h₇ h₈ h₉ h₁₀ = absurd (h₀ refl)
+kind-bad (suc zero) r h₀ h₁ h₂ h₃ h₄ h₅ h₆ h₇ h₈ h₉ h₁₀ = absurd (h₁ refl)
+kind-bad (suc (suc zero)) r h₀ h₁ h₂ h₃ h₄ h₅ h₆ h₇ h₈ h₉ h₁₀ = absurd (h₂ refl)
+kind-bad (suc (suc (suc zero))) r h₀ h₁ h₂ h₃ h₄ h₅ h₆ h₇ h₈ h₉ h₁₀ = absurd (h₃ refl)
+kind-bad (suc (suc (suc (suc zero)))) r h₀ h₁ h₂ h₃ h₄ h₅ h₆ h₇ h₈ h₉ h₁₀ = absurd (h₄ refl)
+kind-bad (suc (suc (suc (suc (suc zero))))) r h₀ h₁ h₂ h₃ h₄ h₅ h₆ h₇ h₈ h₉ h₁₀ = absurd (h₅ refl)
+kind-bad (suc (suc (suc (suc (suc (suc zero)))))) r h₀ h₁ h₂ h₃ h₄ h₅ h₆ h₇ h₈ h₉ h₁₀ = absurd (h₆ refl)
+kind-bad (suc (suc (suc (suc (suc (suc (suc zero))))))) r h₀ h₁ h₂ h₃ h₄ h₅ h₆ h₇ h₈ h₉ h₁₀ = absurd (h₇ refl)
+kind-bad (suc (suc (suc (suc (suc (suc (suc (suc zero)))))))) r h₀ h₁ h₂ h₃ h₄ h₅ h₆ h₇ h₈ h₉ h₁₀ = absurd (h₈ refl)
+kind-bad (suc (suc (suc (suc (suc (suc (suc (suc (suc zero))))))))) r h₀ h₁ h₂ h₃ h₄ h₅ h₆ h₇ h₈ h₉ h₁₀ = absurd (h₉ refl)
+kind-bad (suc (suc (suc (suc (suc (suc (suc (suc (suc (suc zero)))))))))) r h₀ h₁ h₂ h₃ h₄ h₅ h₆ h₇ h₈ h₉ h₁₀ = absurd (h₁₀ refl)
+kind-bad (suc (suc (suc (suc (suc (suc (suc (suc (suc (suc (suc k))))))))))) r h₀ h₁ h₂ h₃ h₄ h₅ h₆ h₇ h₈ h₉ h₁₀ = simp (lt-leb (suc (suc (suc (suc (suc (suc (suc (suc (suc (suc (suc k))))))))))) 10 (omega arith))
+
+pub ruleset number-cases = (spacing-0, spacing-1, spacing-2, raw-0, raw-1, delimiter-0, delimiter-1, delimiter-2, delimiter-3, spacing-bad, raw-bad, delimiter-bad, kind-0, kind-1, kind-2, kind-3, kind-4, kind-5, kind-6, kind-7, kind-8, kind-9, kind-10, kind-bad)
 
 -- ---- and back
 

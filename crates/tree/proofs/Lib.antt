@@ -1,8 +1,11 @@
 pub mod RawAgain
 pub mod FieldsReturns
 pub mod KindsReturns
+pub mod KindsUse
 pub mod TypesWords
+pub mod WordsFit
 pub mod WordsReturns
 pub mod WordsTree
 pub mod WordsAgain
 pub mod ListedLaws
+pub mod SizesReturns

@@ -4,7 +4,7 @@ use mathlib.Core.Bool.{Bool, true, false, not}
 use mathlib.Core.Path.{_≡_, refl, sym, ap, _∙_}
 use mathlib.Core.List.{List}
 use native.Mathlib.Omega.{arith}
-use borrow.Author.Tests.{le-leb, lt-leb, eq-eqb, ne-eqb, not-true, not-false}
+use borrow.Author.Tests.{le-leb, lt-leb, leb-true, eq-eqb, ne-eqb, not-true, not-false}
 use lib.Dec.{leb, eqb}
 use Rattle.format.specs.Test.{if_then_else_}
 use Rattle.format.specs.Fields.{fields, isRawKind}
@@ -16,7 +16,7 @@ use Rattle.tree.specs.declared.raw.RawIdent.{RawIdent}
 use Rattle.tree.specs.declared.raw.RawLiteral.{RawLiteral}
 use Rattle.tree.specs.declared.raw.RawSubtree.{RawSubtree}
 use Rattle.tree.specs.Listed.{openSpan, closeSpan, punctAt, identAt, literalAt, subtreeAt}
-use Rattle.tree.specs.Plain.{secondMost, firstMost, closeMost, Low, Shut}
+use Rattle.tree.specs.Plain.{secondMost, firstMost, closeMost, Low, LowClose}
 
 -- ---- the sort
 
@@ -95,13 +95,10 @@ module _ (x : ℕ) where
   pub close-other : (x ≡ 3 → ⊥) → 0 ≡ closeMost x
   close-other h = simp (ne-eqb _ _ h)
 
-pub ends-not : (s e : ℕ) → false ≡ true → s + e ≤ 4294967295
-ends-not s e q = never q
+pub ends-there : (s e : ℕ) (r : Bool) → r ≡ leb (s + e) 4294967295 → r ≡ true → s + e ≤ 4294967295
+ends-there s e r q h = leb-true (s + e) 4294967295 (sym q ∙ h)
 
-pub ends-there : (s e : ℕ) → s < 4294967296 → e ≤ 4294967295 - s → true ≡ true → s + e ≤ 4294967295
-ends-there s e g h q = omega arith
-
-pub ruleset limit-cases = (second-0, second-1, second-2, second-other, first-0, first-other, close-3, close-other, ends-not, ends-there)
+pub ruleset limit-cases = (second-0, second-1, second-2, second-other, first-0, first-other, close-3, close-other, ends-there)
 
 -- ---- a tree within them
 
@@ -156,16 +153,16 @@ module _ (l : List ℕ) (n : ℕ) where
   pub low-is : (x : ℕ) → x ≡ wordOf l n 0 → x ≤ 3 → (a : ℕ) → a ≡ secondMost x → wordOf l n 2 ≤ a → (b : ℕ) → b ≡ firstMost x → wordOf l n 1 ≤ b → true ≡ true → Low (wordOf l n)
   low-is x e h a ea ha b eb hb q = record { sort = rw e at h; first = rw (eb, e) at hb; second = rw (ea, e) at ha }
 
-  pub shut-not : false ≡ true → Shut (wordOf l n)
-  shut-not q = never q
+  pub close-low-not : false ≡ true → LowClose (wordOf l n)
+  close-low-not q = never q
 
-  pub shut-is : (x : ℕ) → x ≡ wordOf l n 0 → (c : ℕ) → c ≡ closeMost x → (d : ℕ) → d ≡ wordOf l n 8 + wordOf l n 9 + wordOf l n 10 + wordOf l n 11 + wordOf l n 12 → d ≤ c → true ≡ true → Shut (wordOf l n)
-  shut-is x e c ec d ed h q = record { close = rw (ec, ed, e) at h }
+  pub close-low-is : (x : ℕ) → x ≡ wordOf l n 0 → (c : ℕ) → c ≡ closeMost x → (d : ℕ) → d ≡ wordOf l n 8 + wordOf l n 9 + wordOf l n 10 + wordOf l n 11 + wordOf l n 12 → d ≤ c → true ≡ true → LowClose (wordOf l n)
+  close-low-is x e c ec d ed h q = record { close = rw (ec, ed, e) at h }
 
   pub plain-not : false ≡ true → wordFields (wordOf l n) ≡ true
   plain-not q = never q
 
-  pub plain-is : (u : Bool) → (u ≡ true → Low (wordOf l n)) → not u ≡ false → (v : Bool) → (v ≡ true → Shut (wordOf l n)) → not v ≡ false
+  pub plain-is : (u : Bool) → (u ≡ true → Low (wordOf l n)) → not u ≡ false → (v : Bool) → (v ≡ true → LowClose (wordOf l n)) → not v ≡ false
       → (x : Bool) → (x ≡ true → wordOf l n 6 + wordOf l n 7 ≤ 4294967295) → not x ≡ false → (y : Bool) → (y ≡ true → wordOf l n 11 + wordOf l n 12 ≤ 4294967295)
       → y ≡ true → wordFields (wordOf l n) ≡ true
   plain-is u fu gu v fv gv x fx gx y fy gy =
@@ -175,4 +172,4 @@ module _ (l : List ℕ) (n : ℕ) where
   pub fields-plain : (x : Bool) → (x ≡ true → wordFields (wordOf l n) ≡ true) → x ≡ true → true ≡ wordFields (wordOf l n)
   fields-plain x f h = sym (f h)
 
-pub ruleset plain-cases = (low-not, low-is, shut-not, shut-is, plain-not, plain-is, fields-plain)
+pub ruleset plain-cases = (low-not, low-is, close-low-not, close-low-is, plain-not, plain-is, fields-plain)

@@ -28,6 +28,7 @@ use Rattle.tree.specs.declared.types.TokenTree.{TokenTree}
 use Rattle.tree.specs.declared.types.TokenTree.the-variants as trees
 use Rattle.tree.specs.declared.words.WordsRead.{WordsRead}
 use Rattle.tree.specs.declared.words.WordsRead.the-variants.{Got, Bad}
+use Rattle.tree.proofs.WordsFit.{three, punct-fit, ident-fit, literal-fit, subtree-fit}
 use Rattle.tree.proofs.TypesWords.{spacing-again, is-raw-again, delimiter-again, kind-again, one-word}
 
 -- ---- the words of the tree that was read
@@ -36,9 +37,6 @@ parts-of : (v : ℕ) → v / 65536 ≤ 255 → (v % 256 + 256 * (v / 256 % 256) 
 parts-of v h = omega (arith, div-div-eq-div-mul v 256 256)
 
 module _ (w : ℕ → ℕ) (h : wordFields w ≡ true) where
-  three : (leb (w 0) 3 ≡ true) × (fields (rawFrom 0 0 0 w) ≡ true) × ((eqb (w 0) 3 || noClose w) ≡ true)
-  three = and₃ (leb (w 0) 3) (fields (rawFrom 0 0 0 w)) (eqb (w 0) 3 || noClose w) h
-
   zero-words : noClose w ≡ true → (w 8 ≡ 0) × (w 9 ≡ 0) × (w 10 ≡ 0) × (w 11 ≡ 0) × (w 12 ≡ 0)
   zero-words e =
       let f = and-left (eqb (w 8) 0 && eqb (w 9) 0 && eqb (w 10) 0 && eqb (w 11) 0) (eqb (w 12) 0) e in
@@ -48,41 +46,33 @@ module _ (w : ℕ → ℕ) (h : wordFields w ≡ true) where
   again-punct : w 0 ≡ 0 → treeWordsOf (treeFrom w) ≡ thirteen w
   unfolding treeFrom treeWordsOf rawFrom
   again-punct e =
-      let f : (spanFits (record { index = 0; start = w 6; len = w 7 }) && isScalar (w 1) && leb (w 2) 2) ≡ true = simp e at three .1 in
-      let n : noClose w ≡ true = simp e at three .2 in
+      let n : noClose w ≡ true = simp e at (three w h .2) in
       let z = zero-words n in
-      let k = spacing-again (w 2) (leb-true (w 2) 2 (and₃ (spanFits (record { index = 0; start = w 6; len = w 7 })) (isScalar (w 1)) (leb (w 2) 2) f .2)) in
+      let k = spacing-again (w 2) (punct-fit w h e) in
       simp (e, k, z .0, z .1, z .2, z .3, z .4)
 
   again-ident : w 0 ≡ 1 → treeWordsOf (treeFrom w) ≡ thirteen w
   unfolding treeFrom treeWordsOf rawFrom
   again-ident e =
-      let f : (spanFits (record { index = 0; start = w 6; len = w 7 }) && leb (w 2) 1) ≡ true = simp e at three .1 in
-      let n : noClose w ≡ true = simp e at three .2 in
+      let n : noClose w ≡ true = simp e at (three w h .2) in
       let z = zero-words n in
-      let k = is-raw-again (w 2) (leb-true (w 2) 1 (and-right (spanFits (record { index = 0; start = w 6; len = w 7 })) (leb (w 2) 1) f)) in
+      let k = is-raw-again (w 2) (ident-fit w h e) in
       simp (e, k, z .0, z .1, z .2, z .3, z .4)
 
   again-literal : w 0 ≡ 2 → treeWordsOf (treeFrom w) ≡ thirteen w
   unfolding treeFrom treeWordsOf rawFrom
   again-literal e =
-      let s : format.Span = record { index = 0; start = w 6; len = w 7 } in
-      let c : Bool = if isRawKind (w 2 % 256) then leb (w 2 / 256 % 256) 255 else eqb (w 2 / 256 % 256) 0 in
-      let f : (spanFits s && leb (w 2 % 256) 10 && c && leb (w 2 / 65536) 255) ≡ true = simp e at three .1 in
-      let n : noClose w ≡ true = simp e at three .2 in
+      let n : noClose w ≡ true = simp e at (three w h .2) in
       let z = zero-words n in
-      let g = and₄ (spanFits s) (leb (w 2 % 256) 10) c (leb (w 2 / 65536) 255) f in
-      let k = kind-again (w 2 % 256) (w 2 / 256 % 256) (leb-true (w 2 % 256) 10 (g .1)) (g .2) in
-      let p = parts-of (w 2) (leb-true (w 2 / 65536) 255 (g .3)) in
+      let g = literal-fit w h e in
+      let k = kind-again (w 2 % 256) (w 2 / 256 % 256) (leb-true (w 2 % 256) 10 (g .0)) (g .1) in
+      let p = parts-of (w 2) (leb-true (w 2 / 65536) 255 (g .2)) in
       simp (e, k, p, z .0, z .1, z .2, z .3, z .4)
 
   again-subtree : w 0 ≡ 3 → treeWordsOf (treeFrom w) ≡ thirteen w
   unfolding treeFrom treeWordsOf rawFrom
   again-subtree e =
-      let s : format.Span = record { index = 0; start = w 6; len = w 7 } in
-      let t : format.Span = record { index = 0; start = w 11; len = w 12 } in
-      let f : (spanFits s && spanFits t && leb (w 2) 3) ≡ true = simp e at three .1 in
-      let k = delimiter-again (w 2) (leb-true (w 2) 3 (and₃ (spanFits s) (spanFits t) (leb (w 2) 3) f .2)) in
+      let k = delimiter-again (w 2) (subtree-fit w h e) in
       simp (e, k)
 
   pub tree-words-again : treeWordsOf (treeFrom w) ≡ thirteen w
@@ -93,7 +83,7 @@ module _ (w : ℕ → ℕ) (h : wordFields w ≡ true) where
       go (suc zero) e = again-ident e
       go (suc (suc zero)) e = again-literal e
       go (suc (suc (suc zero))) e = again-subtree e
-      go (suc (suc (suc (suc k)))) e = let l : w 0 ≤ 3 = leb-true (w 0) 3 (three .0) in absurd (omega arith)
+      go (suc (suc (suc (suc k)))) e = let l : w 0 ≤ 3 = leb-true (w 0) 3 (three w h .0) in absurd (omega arith)
 
 got-bad : {A : Type 0} (t : TokenTree) (k : ℕ) → Bad k ≡ Got t → A
 got-bad t k e = let z : _≡_ {A = ℕ} 0 1 = cc in absurd (omega arith)

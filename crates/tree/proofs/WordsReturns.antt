@@ -110,6 +110,9 @@ module _ (l : List ℕ) (n x₁ : ℕ) (e₁ : x₁ ≡ wordOf l n 8) where
 
 pub ruleset close-cases = (close-8, close-9, close-10, close-11, close-12, close-none)
 
+pub sort-3 : (l : List ℕ) (n w₀ : ℕ) → w₀ ≡ wordOf l n 0 → w₀ ≤ 3 → wordOf l n 0 ≤ 3
+sort-3 l n w₀ e h = omega arith
+
 module _ (l : List ℕ) (n w₀ : ℕ) (e₀ : w₀ ≡ wordOf l n 0) where
   pub sort-2 : 3 < w₀ → false ≡ wordFields (wordOf l n)
   sort-2 h = let a : leb (wordOf l n 0) 3 ≡ false = lt-leb (wordOf l n 0) 3 (omega arith) in simp a
@@ -137,4 +140,4 @@ module _ (l : List ℕ) (n w₀ : ℕ) (e₀ : w₀ ≡ wordOf l n 0) where
           let z : eqb (wordOf l n 0) 3 ≡ false = ne-eqb _ _ (λ j. i (e₀ ∙ j)) in
           q ∙ simp (low, a, z)
 
-pub ruleset words-cases = (sort-2, tree-fields-2, subtree-words, leaf-words)
+pub ruleset words-cases = (sort-3, sort-2, tree-fields-2, subtree-words, leaf-words)

@@ -21,5 +21,5 @@ pub record Low (w : ℕ → ℕ) : Type 0 where
   pub first : w 1 ≤ firstMost (w 0)
   pub second : w 2 ≤ secondMost (w 0)
 
-pub record Shut (w : ℕ → ℕ) : Type 0 where
+pub record LowClose (w : ℕ → ℕ) : Type 0 where
   pub close : w 8 + w 9 + w 10 + w 11 + w 12 ≤ closeMost (w 0)

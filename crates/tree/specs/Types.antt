@@ -2,7 +2,7 @@
 use Prim.Native.Nat.{ℕ, _+_, _*_, _%_}
 use mathlib.Core.List.{List, [], _∷_, _++_}
 use lib.ListN.{getD}
-use lib.Dec.{eqb}
+use lib.Dec.{leb, eqb}
 use Rattle.format.specs.Test.{if_then_else_}
 use Rattle.format.specs.Span as format
 use Rattle.format.specs.Tree.{Raw, punct, ident, literal, subtree}
@@ -15,6 +15,14 @@ use Rattle.tree.specs.declared.types.DelimiterKind.{DelimiterKind}
 use Rattle.tree.specs.declared.types.DelimiterKind.the-variants.{Parenthesis, Brace, Bracket, Invisible}
 use Rattle.tree.specs.declared.types.LitKind.{LitKind}
 use Rattle.tree.specs.declared.types.LitKind.the-variants.{Byte, Char, Integer, Float, Str, StrRaw, ByteStr, ByteStrRaw, CStr, CStrRaw, Err}
+use Rattle.tree.specs.declared.kinds.SpacingRead.{SpacingRead}
+use Rattle.tree.specs.declared.kinds.SpacingRead.the-variants as spacings
+use Rattle.tree.specs.declared.kinds.IsRawRead.{IsRawRead}
+use Rattle.tree.specs.declared.kinds.IsRawRead.the-variants as raws
+use Rattle.tree.specs.declared.kinds.DelimiterRead.{DelimiterRead}
+use Rattle.tree.specs.declared.kinds.DelimiterRead.the-variants as delimiters
+use Rattle.tree.specs.declared.kinds.LitKindRead.{LitKindRead}
+use Rattle.tree.specs.declared.kinds.LitKindRead.the-variants as kinds
 use Rattle.tree.specs.declared.types.Subtree.{Subtree}
 use Rattle.tree.specs.declared.types.Leaf.{Leaf}
 use Rattle.tree.specs.declared.types.Leaf.the-variants as leaves
@@ -45,6 +53,26 @@ litKindOf k r =
     (if eqb k 7 then ByteStrRaw r else
     (if eqb k 8 then CStr else
     (if eqb k 9 then CStrRaw r else Err)))))))))
+
+-- ---- from any number: "`transmute`: a match with refusal 2"
+
+-- "spacing (0 to 2)"
+unfoldable pub spacingAnswer : ℕ → SpacingRead
+spacingAnswer x = if leb x 2 then spacings.Got (spacingOf x) else spacings.Bad 2
+
+-- "raw (0 or 1)"
+unfoldable pub isRawAnswer : ℕ → IsRawRead
+isRawAnswer x = if leb x 1 then raws.Got (isRawOf x) else raws.Bad 2
+
+-- "delimiter kind (0 to 3)"
+unfoldable pub delimiterAnswer : ℕ → DelimiterRead
+delimiterAnswer d = if leb d 3 then delimiters.Got (delimiterOf d) else delimiters.Bad 2
+
+-- "Literal kinds 0 to 10"
+unfoldable pub litKindAnswer : ℕ → ℕ → LitKindRead
+litKindAnswer k r = if leb k 10 then kinds.Got (litKindOf k r) else kinds.Bad 2
+
+-- ---- by the entries of the tables
 
 abbrev pub spanWith : List ℕ → format.Span → Span
 spanWith parts s =

@@ -5,7 +5,8 @@ use lib.Dec.{leb, eqb}
 use Rattle.format.specs.Test.{if_then_else_}
 use Rattle.format.specs.Span as format
 use Rattle.format.specs.Fields.{spanFits, isScalar}
-use Rattle.format.specs.WordList.{wordFields}
+use Rattle.format.specs.WordList.{rawFrom, wordFields}
+use Rattle.tree.specs.Raw.{rawTree}
 use Rattle.tree.specs.Types.{spacingOf, isRawOf, delimiterOf, litKindOf}
 use Rattle.tree.specs.declared.types.Span.{Span}
 use Rattle.tree.specs.declared.types.LitKind.{LitKind}
@@ -15,6 +16,8 @@ use Rattle.tree.specs.declared.types.TokenTree.{TokenTree}
 use Rattle.tree.specs.declared.types.TokenTree.the-variants as trees
 use Rattle.tree.specs.declared.words.WordsRead.{WordsRead}
 use Rattle.tree.specs.declared.words.WordsRead.the-variants.{Got, Bad}
+use Rattle.tree.specs.declared.words.RawWords.{RawWords}
+use Rattle.tree.specs.declared.words.RawWords.the-variants as raws
 
 -- "Words 3 to 7: the span, or the opening one: file, ast id, context, start, length. Words 8 to 12: the closing span"
 abbrev pub spanFrom : (ℕ → ℕ) → ℕ → Span
@@ -22,17 +25,33 @@ spanFrom w j = record { file = w j; «ast_id» = w (j + 1); context = w (j + 2);
 
 -- "Word 0: 0 punct, 1 ident, 2 literal, 3 subtree. Words 1, 2: punct character, spacing; ident symbol, raw;
 -- literal symbol, then kind + 256 × raw count + 65,536 × suffix length; subtree descendant count, delimiter kind"
+module _ (x y : ℕ) (s : Span) where
+  abbrev pub punctFrom : TokenTree
+  punctFrom = trees.Leaf (leaves.Punct (record { char = x; spacing = spacingOf y; span = s }))
+
+  abbrev pub identFrom : TokenTree
+  identFrom = trees.Leaf (leaves.Ident (record { sym = x; span = s; «is_raw» = isRawOf y }))
+
+  abbrev pub literalFrom : TokenTree
+  literalFrom = trees.Leaf (leaves.Literal (record { «text_and_suffix» = x; span = s; kind = litKindOf (y % 256) (y / 256 % 256); «suffix_len» = y / 65536 }))
+
+  abbrev pub subtreeFrom : Span → TokenTree
+  subtreeFrom t = trees.Subtree (record { opening = s; closing = t; len = record { 0 = x }; kind = delimiterOf y })
+
 unfoldable pub treeFrom : (ℕ → ℕ) → TokenTree
 treeFrom w =
-    if eqb (w 0) 0 then trees.Leaf (leaves.Punct (record { char = w 1; spacing = spacingOf (w 2); span = spanFrom w 3 })) else
-    (if eqb (w 0) 1 then trees.Leaf (leaves.Ident (record { sym = w 1; span = spanFrom w 3; «is_raw» = isRawOf (w 2) })) else
-    (if eqb (w 0) 2 then
-    trees.Leaf (leaves.Literal (record { «text_and_suffix» = w 1; span = spanFrom w 3; kind = litKindOf (w 2 % 256) (w 2 / 256 % 256); «suffix_len» = w 2 / 65536 })) else
-    trees.Subtree (record { opening = spanFrom w 3; closing = spanFrom w 8; len = record { 0 = w 1 }; kind = delimiterOf (w 2) })))
+    if eqb (w 0) 0 then punctFrom (w 1) (w 2) (spanFrom w 3) else
+    (if eqb (w 0) 1 then identFrom (w 1) (w 2) (spanFrom w 3) else
+    (if eqb (w 0) 2 then literalFrom (w 1) (w 2) (spanFrom w 3) else
+    subtreeFrom (w 1) (w 2) (spanFrom w 3) (spanFrom w 8)))
 
 -- row 2 first
 unfoldable pub wordsAnswer : (ℕ → ℕ) → WordsRead
 wordsAnswer w = if wordFields w then Got (treeFrom w) else Bad 2
+
+-- the same with the indices of its open and close part and of its symbol
+unfoldable pub rawWordsAnswer : ℕ → ℕ → ℕ → (ℕ → ℕ) → RawWords
+rawWordsAnswer o c y w = if wordFields w then raws.Got (rawTree (rawFrom o c y w)) else raws.Bad 2
 
 -- ---- row 2 of the source's tree: what its types leave open
 

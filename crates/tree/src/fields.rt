@@ -5,6 +5,7 @@ use crate::raw::RawPunct;
 use crate::raw::RawSubtree;
 use crate::raw::RawTree;
 use pack::span::PackedSpan;
+use pack::span::range_fits;
 ghost use mathlib.Core.Path.{_≡_};
 ghost use lib.Dec.{leb, eqb};
 ghost use Rattle.format.specs.Test.{if_then_else_};
@@ -15,10 +16,7 @@ ghost use Rattle.tree.specs.Raw.{rawOf, punctRaw, identRaw, literalRaw, 
 fn span_fits(span: PackedSpan) -> bool
     ensures { λ r. ⌜ r ≡ spanFits (spanOf span) ⌝ }
 {
-    if 4294967295 - span.start < span.len {
-        return false;
-    }
-    true
+    range_fits(span.start, span.len)
 }
 
 // A scalar value of Unicode.

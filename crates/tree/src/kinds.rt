@@ -1,59 +1,84 @@
-// The numbers of the list words as the source's kinds, and back.
-// Row 2 is tested elsewhere: the last arm takes every number that is left.
+// The numbers of the list words as the source's kinds, where row 2 is silent on them, and back.
 use crate::types::DelimiterKind;
 use crate::types::IdentIsRaw;
 use crate::types::LitKind;
 use crate::types::Spacing;
 ghost use mathlib.Core.Path.{_≡_};
 ghost use Prim.Native.Nat.{_+_, _*_, _<_};
-ghost use Rattle.tree.specs.Types.{spacingOf, isRawOf, delimiterOf, litKindOf};
+ghost use Rattle.tree.specs.Types.{spacingAnswer, isRawAnswer, delimiterAnswer, litKindAnswer};
 ghost use Rattle.tree.specs.Types.{spacingWord, isRawWord, delimiterWord, litKindWord};
 
-pub fn spacing_from(x: u32) -> Spacing
-    ensures { λ r. ⌜ r ≡ spacingOf x ⌝ }
+// Each answers a kind, or the refusal's number.
+pub enum SpacingRead {
+    Got(Spacing),
+    Bad(u32),
+}
+
+pub enum IsRawRead {
+    Got(IdentIsRaw),
+    Bad(u32),
+}
+
+pub enum DelimiterRead {
+    Got(DelimiterKind),
+    Bad(u32),
+}
+
+pub enum LitKindRead {
+    Got(LitKind),
+    Bad(u32),
+}
+
+pub fn spacing_from(x: u32) -> SpacingRead
+    ensures { λ r. ⌜ r ≡ spacingAnswer x ⌝ }
 {
     match x {
-        0 => Spacing::Alone,
-        1 => Spacing::Joint,
-        _ => Spacing::JointHidden,
+        0 => SpacingRead::Got(Spacing::Alone),
+        1 => SpacingRead::Got(Spacing::Joint),
+        2 => SpacingRead::Got(Spacing::JointHidden),
+        _ => SpacingRead::Bad(2),
     }
 }
 
-pub fn is_raw_from(x: u32) -> IdentIsRaw
-    ensures { λ r. ⌜ r ≡ isRawOf x ⌝ }
+pub fn is_raw_from(x: u32) -> IsRawRead
+    ensures { λ r. ⌜ r ≡ isRawAnswer x ⌝ }
 {
     match x {
-        0 => IdentIsRaw::No,
-        _ => IdentIsRaw::Yes,
+        0 => IsRawRead::Got(IdentIsRaw::No),
+        1 => IsRawRead::Got(IdentIsRaw::Yes),
+        _ => IsRawRead::Bad(2),
     }
 }
 
-pub fn delimiter_from(d: u32) -> DelimiterKind
-    ensures { λ r. ⌜ r ≡ delimiterOf d ⌝ }
+pub fn delimiter_from(d: u32) -> DelimiterRead
+    ensures { λ r. ⌜ r ≡ delimiterAnswer d ⌝ }
 {
     match d {
-        0 => DelimiterKind::Parenthesis,
-        1 => DelimiterKind::Brace,
-        2 => DelimiterKind::Bracket,
-        _ => DelimiterKind::Invisible,
+        0 => DelimiterRead::Got(DelimiterKind::Parenthesis),
+        1 => DelimiterRead::Got(DelimiterKind::Brace),
+        2 => DelimiterRead::Got(DelimiterKind::Bracket),
+        3 => DelimiterRead::Got(DelimiterKind::Invisible),
+        _ => DelimiterRead::Bad(2),
     }
 }
 
-pub fn lit_kind_from(kind: u32, raw_count: u32) -> LitKind
-    ensures { λ r. ⌜ r ≡ litKindOf kind «raw_count» ⌝ }
+// The raw count belongs to three of the kinds, and row 2 of it is not asked here.
+pub fn lit_kind_from(kind: u32, raw_count: u32) -> LitKindRead
+    ensures { λ r. ⌜ r ≡ litKindAnswer kind «raw_count» ⌝ }
 {
     match kind {
-        0 => LitKind::Byte,
-        1 => LitKind::Char,
-        2 => LitKind::Integer,
-        3 => LitKind::Float,
-        4 => LitKind::Str,
-        5 => LitKind::StrRaw(raw_count),
-        6 => LitKind::ByteStr,
-        7 => LitKind::ByteStrRaw(raw_count),
-        8 => LitKind::CStr,
-        9 => LitKind::CStrRaw(raw_count),
-        _ => LitKind::Err,
+        0 => LitKindRead::Got(LitKind::Byte),
+        1 => LitKindRead::Got(LitKind::Char),
+        2 => LitKindRead::Got(LitKind::Integer),
+        3 => LitKindRead::Got(LitKind::Float),
+        4 => LitKindRead::Got(LitKind::Str),
+        5 => LitKindRead::Got(LitKind::StrRaw(raw_count)),
+        6 => LitKindRead::Got(LitKind::ByteStr),
+        7 => LitKindRead::Got(LitKind::ByteStrRaw(raw_count)),
+        8 => LitKindRead::Got(LitKind::CStr),
+        9 => LitKindRead::Got(LitKind::CStrRaw(raw_count)),
+        10 => LitKindRead::Got(LitKind::Err),
+        _ => LitKindRead::Bad(2),
     }
 }
 

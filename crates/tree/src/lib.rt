@@ -5,5 +5,6 @@ pub mod listed;
 pub mod plain;
 pub mod raw;
 pub mod refusal;
+pub mod sizes;
 pub mod types;
 pub mod words;

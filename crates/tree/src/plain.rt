@@ -2,11 +2,12 @@
 // compared without a branch by sort, and a tree that is past one of them is looked at in full.
 use crate::listed::sort_at;
 use crate::words::word_fields;
+use pack::span::range_fits;
 ghost use mathlib.Core.Path.{_≡_};
 ghost use mathlib.Core.Bool.{true};
 ghost use Prim.Native.Nat.{_+_, _<_, _≤_};
 ghost use Rattle.format.specs.WordList.{listCount, wordOf, wordFields};
-ghost use Rattle.tree.specs.Plain.{secondMost, firstMost, closeMost, Low, Shut};
+ghost use Rattle.tree.specs.Plain.{secondMost, firstMost, closeMost, Low, LowClose};
 
 fn second_most(sort: u32) -> u32
     ensures { λ r. ⌜ r ≡ secondMost sort ⌝ }
@@ -58,10 +59,7 @@ fn close_sum(l: &[u32], n: usize) -> u64
 fn span_ends(start: u32, len: u32) -> bool
     ensures { λ r. ⌜ ((r ≡ true) → (start + len ≤ 4294967295)) ⌝ }
 {
-    if 4294967295 - start < len {
-        return false;
-    }
-    true
+    range_fits(start, len)
 }
 
 // Whether the first three words of tree n keep to the limits.
@@ -83,9 +81,9 @@ fn is_low(l: &[u32], n: usize) -> bool
 }
 
 // Whether the sum of words 8 to 12 does.
-fn is_shut(l: &[u32], n: usize) -> bool
+fn is_low_close(l: &[u32], n: usize) -> bool
     requires { ⌜ n < listCount (now l) ⌝ }
-    ensures { λ r. ⌜ ((r ≡ true) → Shut (wordOf (now (l .entry)) n)) ⌝ }
+    ensures { λ r. ⌜ ((r ≡ true) → LowClose (wordOf (now (l .entry)) n)) ⌝ }
 {
     if close_most(sort_at(l, n)) < close_sum(l, n) {
         return false;
@@ -101,7 +99,7 @@ fn is_plain(l: &[u32], n: usize) -> bool
     if !is_low(l, n) {
         return false;
     }
-    if !is_shut(l, n) {
+    if !is_low_close(l, n) {
         return false;
     }
     if !span_ends(l[13 * n + 6], l[13 * n + 7]) {

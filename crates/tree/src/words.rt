@@ -1,6 +1,9 @@
-// One tree of a list by its 13 words, and its words again.
-// A word past the end of the list counts as 0, so that every place has a tree.
+// One tree by its 13 list words, where row 2 is silent on them, and its words again.
 use crate::fields::tree_fits;
+use crate::kinds::DelimiterRead;
+use crate::kinds::IsRawRead;
+use crate::kinds::LitKindRead;
+use crate::kinds::SpacingRead;
 use crate::kinds::delimiter_from;
 use crate::kinds::delimiter_word;
 use crate::kinds::is_raw_from;
@@ -26,15 +29,24 @@ use crate::types::TokenTree;
 use pack::span::PackedSpan;
 ghost use mathlib.Core.Path.{_≡_};
 ghost use mathlib.Core.List.{_∷_, _++_};
-ghost use Prim.Native.Nat.{_+_, _*_, _%_, _<_};
+ghost use mathlib.Core.Bool.{true};
+ghost use Prim.Native.Nat.{_+_, _*_, _%_, _<_, _≤_};
 ghost use Rattle.format.specs.WordList.{wordOf, rawFrom, noClose, wordFields};
 ghost use Rattle.tree.specs.Raw.{rawTree};
 ghost use Rattle.tree.specs.Types.{litKindWord, spanList, treeWordsOf};
 ghost use Rattle.tree.specs.declared.types.TokenTree.the-variants as trees;
-ghost use Rattle.tree.specs.Words.{spanFrom, treeFrom, wordsAnswer};
+ghost use Rattle.tree.specs.Words.{spanFrom, treeFrom, wordsAnswer, rawWordsAnswer};
+ghost use Rattle.tree.specs.Words.{punctFrom, identFrom, literalFrom, subtreeFrom};
+ghost use Rattle.tree.specs.declared.words.WordsRead.the-variants as reads;
 
 pub enum WordsRead {
     Got(TokenTree),
+    // The refusal's number.
+    Bad(u32),
+}
+
+pub enum RawWords {
+    Got(RawTree),
     // The refusal's number.
     Bad(u32),
 }
@@ -82,14 +94,9 @@ fn close_span(l: &[u32], n: usize, index: u32) -> PackedSpan
     }
 }
 
-// Tree n with the indices of its open and close part and of its symbol.
-pub fn raw_from_words(
-    l: &[u32],
-    n: usize,
-    open_index: u32,
-    close_index: u32,
-    symbol_index: u32,
-) -> RawTree
+// Tree n, if its first word says a sort, with the indices of its open and close part and of its symbol.
+fn raw_of(l: &[u32], n: usize, open_index: u32, close_index: u32, symbol_index: u32) -> RawTree
+    requires { ⌜ wordOf (now l) n 0 ≤ 3 ⌝ }
     ensures { λ r. ⌜ r ≡ rawTree (rawFrom «open_index» «close_index» «symbol_index» (wordOf (now (l .entry)) n)) ⌝ }
 {
     let sort = word(l, n, 0);
@@ -151,14 +158,14 @@ fn no_close(l: &[u32], n: usize) -> bool
 }
 
 // Whether row 2 is silent at tree n.
-pub fn word_fields(l: &[u32], n: usize) -> bool
+pub(crate) fn word_fields(l: &[u32], n: usize) -> bool
     ensures { λ r. ⌜ r ≡ wordFields (wordOf (now (l .entry)) n) ⌝ }
 {
     let sort = word(l, n, 0);
     if 3 < sort {
         return false;
     }
-    let tree = raw_from_words(l, n, 0, 0, 0);
+    let tree = raw_of(l, n, 0, 0, 0);
     if !tree_fits(tree) {
         return false;
     }
@@ -166,6 +173,21 @@ pub fn word_fields(l: &[u32], n: usize) -> bool
         return true;
     }
     no_close(l, n)
+}
+
+// The tree of these words with the indices of its open and close part and of its symbol.
+pub fn raw_from_words(
+    words: &[u32; 13],
+    open_index: u32,
+    close_index: u32,
+    symbol_index: u32,
+) -> RawWords
+    ensures { λ r. ⌜ r ≡ rawWordsAnswer «open_index» «close_index» «symbol_index» (wordOf (now (words .entry)) 0) ⌝ }
+{
+    if !word_fields(words, 0) {
+        return RawWords::Bad(2);
+    }
+    RawWords::Got(raw_of(words, 0, open_index, close_index, symbol_index))
 }
 
 // ---- the source's tree, whose entries are the words themselves
@@ -184,51 +206,93 @@ fn whole_span(l: &[u32], n: usize, j: usize) -> Span
     }
 }
 
-fn whole_tree(l: &[u32], n: usize) -> TokenTree
-    ensures { λ r. ⌜ r ≡ treeFrom (wordOf (now (l .entry)) n) ⌝ }
+fn whole_punct(char: u32, spacing: u32, span: Span) -> WordsRead
+    requires { ⌜ spacing ≤ 2 ⌝ }
+    ensures { λ r. ⌜ r ≡ reads.Got (punctFrom char spacing span) ⌝ }
+{
+    match spacing_from(spacing) {
+        SpacingRead::Bad(number) => WordsRead::Bad(number),
+        SpacingRead::Got(spacing) => WordsRead::Got(TokenTree::Leaf(Leaf::Punct(Punct {
+            char: char,
+            spacing: spacing,
+            span: span,
+        }))),
+    }
+}
+
+fn whole_ident(sym: u32, raw: u32, span: Span) -> WordsRead
+    requires { ⌜ raw ≤ 1 ⌝ }
+    ensures { λ r. ⌜ r ≡ reads.Got (identFrom sym raw span) ⌝ }
+{
+    match is_raw_from(raw) {
+        IsRawRead::Bad(number) => WordsRead::Bad(number),
+        IsRawRead::Got(is_raw) => WordsRead::Got(TokenTree::Leaf(Leaf::Ident(Ident {
+            sym: sym,
+            span: span,
+            is_raw: is_raw,
+        }))),
+    }
+}
+
+fn whole_literal(sym: u32, second: u32, span: Span) -> WordsRead
+    requires { ⌜ second % 256 ≤ 10 ⌝ }
+    ensures { λ r. ⌜ r ≡ reads.Got (literalFrom sym second span) ⌝ }
+{
+    match lit_kind_from(second % 256, second / 256 % 256) {
+        LitKindRead::Bad(number) => WordsRead::Bad(number),
+        LitKindRead::Got(kind) => WordsRead::Got(TokenTree::Leaf(Leaf::Literal(Literal {
+            text_and_suffix: sym,
+            span: span,
+            kind: kind,
+            suffix_len: second / 65536,
+        }))),
+    }
+}
+
+fn whole_subtree(len: u32, kind: u32, opening: Span, closing: Span) -> WordsRead
+    requires { ⌜ kind ≤ 3 ⌝ }
+    ensures { λ r. ⌜ r ≡ reads.Got (subtreeFrom len kind opening closing) ⌝ }
+{
+    match delimiter_from(kind) {
+        DelimiterRead::Bad(number) => WordsRead::Bad(number),
+        DelimiterRead::Got(kind) => WordsRead::Got(TokenTree::Subtree(Subtree {
+            opening: opening,
+            closing: closing,
+            len: Descendants(len),
+            kind: kind,
+        })),
+    }
+}
+
+fn whole_tree(l: &[u32], n: usize) -> WordsRead
+    requires { ⌜ wordFields (wordOf (now l) n) ≡ true ⌝ }
+    ensures { λ r. ⌜ r ≡ reads.Got (treeFrom (wordOf (now (l .entry)) n)) ⌝ }
 {
     let sort = word(l, n, 0);
     let first = word(l, n, 1);
     let second = word(l, n, 2);
     let span = whole_span(l, n, 3);
     if sort == 0 {
-        return TokenTree::Leaf(Leaf::Punct(Punct {
-            char: first,
-            spacing: spacing_from(second),
-            span: span,
-        }));
+        return whole_punct(first, second, span);
     }
     if sort == 1 {
-        return TokenTree::Leaf(Leaf::Ident(Ident {
-            sym: first,
-            span: span,
-            is_raw: is_raw_from(second),
-        }));
+        return whole_ident(first, second, span);
     }
     if sort == 2 {
-        return TokenTree::Leaf(Leaf::Literal(Literal {
-            text_and_suffix: first,
-            span: span,
-            kind: lit_kind_from(second % 256, second / 256 % 256),
-            suffix_len: second / 65536,
-        }));
+        return whole_literal(first, second, span);
     }
-    TokenTree::Subtree(Subtree {
-        opening: span,
-        closing: whole_span(l, n, 8),
-        len: Descendants(first),
-        kind: delimiter_from(second),
-    })
+    let closing = whole_span(l, n, 8);
+    whole_subtree(first, second, span, closing)
 }
 
-// Tree n, or 2 where row 2 refuses it.
-pub fn tree_from_words(l: &[u32], n: usize) -> WordsRead
-    ensures { λ r. ⌜ r ≡ wordsAnswer (wordOf (now (l .entry)) n) ⌝ }
+// The tree of these words, or 2 where row 2 refuses them.
+pub fn tree_from_words(words: &[u32; 13]) -> WordsRead
+    ensures { λ r. ⌜ r ≡ wordsAnswer (wordOf (now (words .entry)) 0) ⌝ }
 {
-    if !word_fields(l, n) {
+    if !word_fields(words, 0) {
         return WordsRead::Bad(2);
     }
-    WordsRead::Got(whole_tree(l, n))
+    whole_tree(words, 0)
 }
 
 // ---- its words again

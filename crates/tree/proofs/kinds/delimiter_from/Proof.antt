@@ -15,5 +15,8 @@ returns-3 c = search (needs, number-cases)
 returns-4 : tie.Need-returns-4
 returns-4 c = search (needs, number-cases)
 
+returns-5 : tie.Need-returns-5
+returns-5 c = search (needs, number-cases)
+
 pub delimiter-from-spec : {M : Type 1} → statement M
-delimiter-from-spec = tie.close (tie.spec returns returns-2 returns-3 returns-4)
+delimiter-from-spec = tie.close (tie.spec returns returns-2 returns-3 returns-4 returns-5)

@@ -9,5 +9,8 @@ returns c = search (needs, number-cases)
 returns-2 : tie.Need-returns-2
 returns-2 c = search (needs, number-cases)
 
+returns-3 : tie.Need-returns-3
+returns-3 c = search (needs, number-cases)
+
 pub is-raw-from-spec : {M : Type 1} → statement M
-is-raw-from-spec = tie.close (tie.spec returns returns-2)
+is-raw-from-spec = tie.close (tie.spec returns returns-2 returns-3)

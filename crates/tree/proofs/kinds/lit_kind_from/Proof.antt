@@ -36,18 +36,8 @@ returns-10 c = search (needs, number-cases)
 returns-11 : tie.Need-returns-11
 returns-11 c = search (needs, number-cases)
 
+returns-12 : tie.Need-returns-12
+returns-12 c = search (needs, number-cases)
+
 pub lit-kind-from-spec : {M : Type 1} → statement M
-lit-kind-from-spec =
-    tie.close
-    (tie.spec
-    returns
-    returns-2
-    returns-3
-    returns-4
-    returns-5
-    returns-6
-    returns-7
-    returns-8
-    returns-9
-    returns-10
-    returns-11)
+lit-kind-from-spec = tie.close (tie.spec returns returns-2 returns-3 returns-4 returns-5 returns-6 returns-7 returns-8 returns-9 returns-10 returns-11 returns-12)

@@ -12,5 +12,8 @@ returns-2 c = search (needs, number-cases)
 returns-3 : tie.Need-returns-3
 returns-3 c = search (needs, number-cases)
 
+returns-4 : tie.Need-returns-4
+returns-4 c = search (needs, number-cases)
+
 pub spacing-from-spec : {M : Type 1} → statement M
-spacing-from-spec = tie.close (tie.spec returns returns-2 returns-3)
+spacing-from-spec = tie.close (tie.spec returns returns-2 returns-3 returns-4)

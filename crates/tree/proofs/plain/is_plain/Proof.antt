@@ -9,8 +9,8 @@ is-low-requires c κs = search (needs, plain-cases)
 returns : tie.Need-returns
 returns c = search (needs, plain-cases)
 
-is-shut-requires : tie.Need-is-shut-requires
-is-shut-requires c κs = search (needs, plain-cases)
+is-low-close-requires : tie.Need-is-low-close-requires
+is-low-close-requires c κs = search (needs, plain-cases)
 
 returns-2 : tie.Need-returns-2
 returns-2 c = search (needs, plain-cases)
@@ -81,7 +81,7 @@ is-plain-spec =
     (tie.spec
     is-low-requires
     returns
-    is-shut-requires
+    is-low-close-requires
     returns-2
     mul-span-ends
     add-span-ends

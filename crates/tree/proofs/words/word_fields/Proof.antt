@@ -9,8 +9,8 @@ word-requires c κs = search (needs, words-cases)
 returns : tie.Need-returns
 returns c = search (needs, words-cases)
 
-raw-from-words-requires : tie.Need-raw-from-words-requires
-raw-from-words-requires c κs = search (needs, words-cases)
+raw-of-requires : tie.Need-raw-of-requires
+raw-of-requires c κs = search (needs, words-cases)
 
 tree-fits-requires : tie.Need-tree-fits-requires
 tree-fits-requires c κs = search (needs, words-cases)
@@ -33,7 +33,7 @@ word-fields-spec =
     (tie.spec
     word-requires
     returns
-    raw-from-words-requires
+    raw-of-requires
     tree-fits-requires
     returns-2
     returns-3
