@@ -1,26 +1,26 @@
 -- One law for each return of the functions that look a tree's indices up, with premises as the code's tests and calls give them.
-use Prim.Native.Nat.{ℕ, _+_, _*_, _/_, _<_}
-use mathlib.Core.Bool.{Bool, true, false, _&&_}
+use Prim.Native.Nat.{ℕ, _+_, _*_, _/_, _<_, _≤_}
+use mathlib.Core.Bool.{Bool, true, false, not, _&&_}
 use mathlib.Core.Path.{_≡_, refl, sym, ap, _∙_, subst}
 use mathlib.Core.Logic.{_⊎_, ⊎-elim, inl, inr}
 use mathlib.Core.List.{List}
 use native.Mathlib.Omega.{arith}
-use borrow.Author.Tests.{ltb-true, eqb-true, ne-eqb}
-use lib.Dec.{ltb, eqb}
+use borrow.Author.Tests.{ltb-true, leb-true, eqb-true, ne-eqb, not-true, not-false}
+use lib.Dec.{ltb, leb, eqb}
 use lib.ListN.{length, getD}
 use Rattle.format.specs.Test.{if_then_else_}
 use Rattle.format.specs.Reader.{got}
 use Rattle.format.specs.Tree.{Raw, treeAt}
-use Rattle.format.specs.Fields.{fields}
+use Rattle.format.specs.Fields.{spanFits, isScalar, isRawKind, fields}
 use Rattle.format.specs.Tables.{rules, ownTables}
 use Rattle.format.specs.Buffer.{formed, unless}
-use Rattle.format.proofs.Each.{and-left, and-right, true-false}
+use Rattle.format.proofs.Each.{and-left, and-right, and₄, true-false}
 use Rattle.pack.specs.Answer.{spanOf}
 use Rattle.pack.specs.declared.span.PackedSpan.{PackedSpan}
 use Rattle.tree.specs.Raw.{rawOf, punctRaw, identRaw, literalRaw, subtreeRaw, rawAnswer, inRange}
-use Rattle.tree.specs.Types.{spacingOf, isRawOf, delimiterOf, litKindOf, spanWith, punctWith, identWith, literalWith, subtreeWith, resolved}
+use Rattle.tree.specs.Types.{spacingOf, isRawOf, delimiterOf, litKindOf, spacingAnswer, isRawAnswer, delimiterAnswer, litKindAnswer, spanWith, punctWith, identWith, literalWith, subtreeWith, resolved}
 use Rattle.decode.specs.Judge.{rowFrom, rowOf}
-use Rattle.decode.specs.Decode.{treeAnswer, decodedAt, shownAs}
+use Rattle.decode.specs.Decode.{treeAnswer, decodedAt, decoded, shownAs}
 use Rattle.tree.specs.declared.raw.ChildrenBytes.{ChildrenBytes}
 use Rattle.tree.specs.declared.raw.Descendants.{Descendants}
 use Rattle.tree.specs.declared.raw.RawPunct.{RawPunct}
@@ -32,6 +32,14 @@ use Rattle.tree.specs.declared.raw.RawTree.{RawTree}
 use Rattle.tree.specs.declared.raw.RawTree.the-variants.{Punct, Ident, Literal, Subtree}
 use Rattle.tree.specs.declared.raw.RawRead.{RawRead}
 use Rattle.tree.specs.declared.raw.RawRead.the-variants as raws
+use Rattle.tree.specs.declared.kinds.SpacingRead.{SpacingRead}
+use Rattle.tree.specs.declared.kinds.SpacingRead.the-variants as spacings
+use Rattle.tree.specs.declared.kinds.IsRawRead.{IsRawRead}
+use Rattle.tree.specs.declared.kinds.IsRawRead.the-variants as is-raws
+use Rattle.tree.specs.declared.kinds.DelimiterRead.{DelimiterRead}
+use Rattle.tree.specs.declared.kinds.DelimiterRead.the-variants as delimiters
+use Rattle.tree.specs.declared.kinds.LitKindRead.{LitKindRead}
+use Rattle.tree.specs.declared.kinds.LitKindRead.the-variants as kinds
 use Rattle.tree.specs.declared.types.Span.{Span}
 use Rattle.tree.specs.declared.types.Spacing.{Spacing}
 use Rattle.tree.specs.declared.types.IdentIsRaw.{IdentIsRaw}
@@ -44,6 +52,7 @@ use Rattle.tree.specs.declared.types.TokenTree.{TokenTree}
 use Rattle.tree.specs.declared.types.TokenTree.the-variants as trees
 use Rattle.decode.specs.declared.decode.TreeRead.{TreeRead}
 use Rattle.decode.specs.declared.decode.TreeRead.the-variants.{Got, Refused}
+use Rattle.tree.proofs.KindsUse.{spacing-got, spacing-never, is-raw-got, is-raw-never, delimiter-got, delimiter-never, kind-got, kind-never}
 use Rattle.decode.proofs.ReadUse.{reply-bad, raw-read, raw-fits}
 use Rattle.decode.proofs.JudgeReturns.{row-formed, bad-judged, row-judged}
 
@@ -137,6 +146,51 @@ module _ (n at next row P : ℕ) (l : row ≡ 0) where
     close-part =
         ⊎-elim (λ e. root′ k P (and-right (eqb (i + 2) P) (eqb (k + 1) P) e)) (λ e. below k P (and-right (ltb (i + 2) P) (ltb (k + 2) P) e)) two-zero
 
+-- ---- a field that row 2 has passed
+
+pub punct-in : (p : RawPunct) → fields (punctRaw p) ≡ true → p .spacing ≤ 2
+punct-in p f = leb-true (p .spacing) 2 (and-right (spanFits (spanOf (p .span)) && isScalar (p .char)) (leb (p .spacing) 2) f)
+
+pub ident-in : (p : RawIdent) → fields (identRaw p) ≡ true → p .raw ≤ 1
+ident-in p f = leb-true (p .raw) 1 (and-right (spanFits (spanOf (p .span))) (leb (p .raw) 1) f)
+
+pub literal-in : (p : RawLiteral) → fields (literalRaw p) ≡ true → p .kind ≤ 10
+literal-in p f =
+    let c : Bool = if isRawKind (p .kind) then leb (p .«raw_count») 255 else eqb (p .«raw_count») 0 in
+    leb-true (p .kind) 10 (and₄ (spanFits (spanOf (p .span))) (leb (p .kind) 10) c (leb (p .«suffix_len») 255) f .1)
+
+pub subtree-in : (p : RawSubtree) → fields (subtreeRaw p) ≡ true → p .kind ≤ 3
+subtree-in p f = leb-true (p .kind) 3 (and-right (spanFits (spanOf (p .opening)) && spanFits (spanOf (p .closing))) (leb (p .kind) 3) f)
+
+-- the answer of its match is the kind, and never the refusal
+module _ (p : RawPunct) (f : fields (punctRaw p) ≡ true) (a : SpacingRead) (e : a ≡ spacingAnswer (p .spacing)) where
+  pub punct-kind : (y : Spacing) → a ≡ spacings.Got y → y ≡ spacingOf (p .spacing)
+  punct-kind y q = spacing-got (p .spacing) (punct-in p f) a e y q
+
+  pub punct-never : (parts symbols : List ℕ) (n at next kids k : ℕ) → a ≡ spacings.Bad k → Refused k ≡ treeAnswer (shownAs parts symbols n at next kids (punctRaw p))
+  punct-never parts symbols n at next kids k q = spacing-never (p .spacing) (punct-in p f) a e k q
+
+module _ (p : RawIdent) (f : fields (identRaw p) ≡ true) (a : IsRawRead) (e : a ≡ isRawAnswer (p .raw)) where
+  pub ident-kind : (y : IdentIsRaw) → a ≡ is-raws.Got y → y ≡ isRawOf (p .raw)
+  ident-kind y q = is-raw-got (p .raw) (ident-in p f) a e y q
+
+  pub ident-never : (parts symbols : List ℕ) (n at next kids k : ℕ) → a ≡ is-raws.Bad k → Refused k ≡ treeAnswer (shownAs parts symbols n at next kids (identRaw p))
+  ident-never parts symbols n at next kids k q = is-raw-never (p .raw) (ident-in p f) a e k q
+
+module _ (p : RawLiteral) (f : fields (literalRaw p) ≡ true) (a : LitKindRead) (e : a ≡ litKindAnswer (p .kind) (p .«raw_count»)) where
+  pub literal-kind : (y : LitKind) → a ≡ kinds.Got y → y ≡ litKindOf (p .kind) (p .«raw_count»)
+  literal-kind y q = kind-got (p .kind) (p .«raw_count») (literal-in p f) a e y q
+
+  pub literal-never : (parts symbols : List ℕ) (n at next kids k : ℕ) → a ≡ kinds.Bad k → Refused k ≡ treeAnswer (shownAs parts symbols n at next kids (literalRaw p))
+  literal-never parts symbols n at next kids k q = kind-never (p .kind) (p .«raw_count») (literal-in p f) a e k q
+
+module _ (p : RawSubtree) (f : fields (subtreeRaw p) ≡ true) (a : DelimiterRead) (e : a ≡ delimiterAnswer (p .kind)) where
+  pub subtree-kind : (y : DelimiterKind) → a ≡ delimiters.Got y → y ≡ delimiterOf (p .kind)
+  subtree-kind y q = delimiter-got (p .kind) (subtree-in p f) a e y q
+
+  pub subtree-never : (parts symbols : List ℕ) (n at next kids k : ℕ) → a ≡ delimiters.Bad k → Refused k ≡ treeAnswer (shownAs parts symbols n at next kids (subtreeRaw p))
+  subtree-never parts symbols n at next kids k q = delimiter-never (p .kind) (subtree-in p f) a e k q
+
 -- ---- a tree that was read
 
 module _ (parts symbols : List ℕ) (n at next : ℕ) (kids : ChildrenBytes) (row : ℕ) where
@@ -197,12 +251,20 @@ pub ruleset found-cases = (
   symbol-symbol,
   open-part,
   punct-refused,
+  punct-kind,
+  punct-never,
   punct-found,
   ident-refused,
+  ident-kind,
+  ident-never,
   ident-found,
   literal-refused,
+  literal-kind,
+  literal-never,
   literal-found,
   subtree-refused,
+  subtree-kind,
+  subtree-never,
   subtree-found,
 )
 
@@ -265,3 +327,16 @@ module _ (b parts symbols : List ℕ) (n at : ℕ) (r : RawRead) (e : r ≡ rawA
     decode-found x f = rw (raw-read b at r e y q) f
 
 pub ruleset decode-cases = (decode-bad, decode-fits, decode-found)
+
+-- ---- behind row 1
+
+module _ (b parts symbols : List ℕ) (n at : ℕ) (s : Bool) (e : s ≡ ownTables parts symbols .sized) where
+  pub sizes-1 : not s ≡ true → Refused 1 ≡ treeAnswer (decoded b parts symbols n at)
+  unfolding decoded treeAnswer
+  sizes-1 h = let k : ownTables parts symbols .sized ≡ false = sym e ∙ not-true s h in rw k
+
+  pub sizes-silent : not s ≡ false → (r : TreeRead) → r ≡ treeAnswer (decodedAt b parts symbols n at) → r ≡ treeAnswer (decoded b parts symbols n at)
+  unfolding decoded
+  sizes-silent h r q = let k : ownTables parts symbols .sized ≡ true = sym e ∙ not-false s h in q ∙ rw k
+
+pub ruleset sized-cases = (sizes-1, sizes-silent)

@@ -1,6 +1,7 @@
 -- Tree n of a buffer as the source's tree: read, judged, and its indices looked up.
 use Prim.Native.Nat.{ℕ}
 use mathlib.Core.List.{List}
+use Rattle.format.specs.Test.{if_then_else_}
 use Rattle.format.specs.Reader.{Reply, got, bad}
 use Rattle.format.specs.Tree.{Raw, treeAt}
 use Rattle.format.specs.Tables.{rules, ownTables}
@@ -17,6 +18,10 @@ treeAnswer (bad r) = Refused r
 -- what every reader of the source's trees reads: document 01's table mode, the tree shown by its entries
 unfoldable pub decodedAt : List ℕ → List ℕ → List ℕ → ℕ → ℕ → Reply TokenTree
 decodedAt b parts symbols n at = judge (λ m t. resolved parts symbols t) (rules (ownTables parts symbols)) n at (treeAt b at)
+
+-- the same of one tree that is asked for by itself: "part words of 3", and the sizes of the tables, first
+unfoldable pub decoded : List ℕ → List ℕ → List ℕ → ℕ → ℕ → Reply TokenTree
+decoded b parts symbols n at = if ownTables parts symbols .sized then decodedAt b parts symbols n at else bad 1
 
 -- the same of a tree that was read already
 unfoldable pub shownAs : List ℕ → List ℕ → ℕ → ℕ → ℕ → ℕ → Raw → Reply TokenTree

@@ -4,6 +4,10 @@ use crate::judge::subtree_row;
 use crate::judge::symbol_row;
 use crate::read::raw_at;
 use pack::span::PackedSpan;
+use tree::kinds::DelimiterRead;
+use tree::kinds::IsRawRead;
+use tree::kinds::LitKindRead;
+use tree::kinds::SpacingRead;
 use tree::kinds::delimiter_from;
 use tree::kinds::is_raw_from;
 use tree::kinds::lit_kind_from;
@@ -17,10 +21,15 @@ use tree::raw::RawRead;
 use tree::raw::RawSubtree;
 use tree::raw::RawTree;
 use tree::raw::place;
+use tree::sizes::tables_sized;
+use tree::types::DelimiterKind;
 use tree::types::Ident;
+use tree::types::IdentIsRaw;
 use tree::types::Leaf;
+use tree::types::LitKind;
 use tree::types::Literal;
 use tree::types::Punct;
+use tree::types::Spacing;
 use tree::types::Span;
 use tree::types::Subtree;
 use tree::types::TokenTree;
@@ -31,8 +40,9 @@ ghost use lib.ListN.{length, getD};
 ghost use Rattle.pack.specs.Answer.{spanOf};
 ghost use Rattle.tree.specs.Raw.{rawOf, punctRaw, identRaw, literalRaw, subtreeRaw};
 ghost use Rattle.format.specs.Fields.{fields};
+ghost use Rattle.tree.specs.Types.{spacingOf, isRawOf, delimiterOf, litKindOf};
 ghost use Rattle.tree.specs.Types.{spanWith, punctWith, identWith, literalWith, subtreeWith};
-ghost use Rattle.decode.specs.Decode.{treeAnswer, decodedAt, shownAs};
+ghost use Rattle.decode.specs.Decode.{treeAnswer, decodedAt, decoded, shownAs};
 
 pub struct TreeAt {
     pub tree: TokenTree,
@@ -72,20 +82,21 @@ fn symbol_from(symbols: &[u32], index: u32) -> u32
 
 // ---- one tree
 
-fn punct_from(parts: &[u32], p: RawPunct) -> Leaf
-    requires { ⌜ p .span .index < length (now parts) / 3 ⌝ }
+fn punct_from(parts: &[u32], p: RawPunct, spacing: Spacing) -> Leaf
+    requires { ⌜ (p .span .index < length (now parts) / 3) × (spacing ≡ spacingOf (p .spacing)) ⌝ }
     ensures { λ r. ⌜ r ≡ punctWith (now (parts .entry)) (spanOf (p .span)) (p .char) (p .spacing) ⌝ }
 {
     let span = p.span;
     Leaf::Punct(Punct {
         char: p.char,
-        spacing: spacing_from(p.spacing),
+        spacing: spacing,
         span: span_from(parts, span),
     })
 }
 
-fn ident_from(parts: &[u32], symbols: &[u32], p: RawIdent) -> Leaf
-    requires { ⌜ (p .span .index < length (now parts) / 3) × (p .symbol < length (now symbols)) ⌝ }
+fn ident_from(parts: &[u32], symbols: &[u32], p: RawIdent, is_raw: IdentIsRaw) -> Leaf
+    requires { ⌜ (p .span .index < length (now parts) / 3) × (p .symbol < length (now symbols))
+        × («is_raw» ≡ isRawOf (p .raw)) ⌝ }
     ensures { λ r. ⌜
         r ≡ identWith (now (parts .entry)) (now (symbols .entry)) (spanOf (p .span)) (p .symbol) (p .raw)
         ⌝ }
@@ -94,12 +105,13 @@ fn ident_from(parts: &[u32], symbols: &[u32], p: RawIdent) -> Leaf
     Leaf::Ident(Ident {
         sym: symbol_from(symbols, p.symbol),
         span: span_from(parts, span),
-        is_raw: is_raw_from(p.raw),
+        is_raw: is_raw,
     })
 }
 
-fn literal_from(parts: &[u32], symbols: &[u32], p: RawLiteral) -> Leaf
-    requires { ⌜ (p .span .index < length (now parts) / 3) × (p .symbol < length (now symbols)) ⌝ }
+fn literal_from(parts: &[u32], symbols: &[u32], p: RawLiteral, kind: LitKind) -> Leaf
+    requires { ⌜ (p .span .index < length (now parts) / 3) × (p .symbol < length (now symbols))
+        × (kind ≡ litKindOf (p .kind) (p .«raw_count»)) ⌝ }
     ensures { λ r. ⌜
         r ≡ literalWith (now (parts .entry)) (now (symbols .entry)) (spanOf (p .span))
         (p .symbol) (p .kind) (p .«raw_count») (p .«suffix_len»)
@@ -109,13 +121,14 @@ fn literal_from(parts: &[u32], symbols: &[u32], p: RawLiteral) -> Leaf
     Leaf::Literal(Literal {
         text_and_suffix: symbol_from(symbols, p.symbol),
         span: span_from(parts, span),
-        kind: lit_kind_from(p.kind, p.raw_count),
+        kind: kind,
         suffix_len: p.suffix_len,
     })
 }
 
-fn subtree_from(parts: &[u32], p: RawSubtree) -> Subtree
-    requires { ⌜ (p .opening .index < length (now parts) / 3) × (p .closing .index < length (now parts) / 3) ⌝ }
+fn subtree_from(parts: &[u32], p: RawSubtree, kind: DelimiterKind) -> Subtree
+    requires { ⌜ (p .opening .index < length (now parts) / 3) × (p .closing .index < length (now parts) / 3)
+        × (kind ≡ delimiterOf (p .kind)) ⌝ }
     ensures { λ r. ⌜
         r ≡ subtreeWith (now (parts .entry)) (spanOf (p .opening)) (spanOf (p .closing)) (p .len .0) (p .kind)
         ⌝ }
@@ -127,7 +140,7 @@ fn subtree_from(parts: &[u32], p: RawSubtree) -> Subtree
         opening: span_from(parts, opening),
         closing: span_from(parts, closing),
         len: len,
-        kind: delimiter_from(p.kind),
+        kind: kind,
     }
 }
 
@@ -151,11 +164,14 @@ fn punct_found(
     if row != 0 {
         return TreeRead::Refused(row);
     }
-    TreeRead::Got(TreeAt {
-        tree: TokenTree::Leaf(punct_from(parts, p)),
-        next: next,
-        children: children,
-    })
+    match spacing_from(p.spacing) {
+        SpacingRead::Bad(number) => TreeRead::Refused(number),
+        SpacingRead::Got(spacing) => TreeRead::Got(TreeAt {
+            tree: TokenTree::Leaf(punct_from(parts, p, spacing)),
+            next: next,
+            children: children,
+        }),
+    }
 }
 
 fn ident_found(
@@ -184,11 +200,14 @@ fn ident_found(
     if row != 0 {
         return TreeRead::Refused(row);
     }
-    TreeRead::Got(TreeAt {
-        tree: TokenTree::Leaf(ident_from(parts, symbols, p)),
-        next: next,
-        children: children,
-    })
+    match is_raw_from(p.raw) {
+        IsRawRead::Bad(number) => TreeRead::Refused(number),
+        IsRawRead::Got(is_raw) => TreeRead::Got(TreeAt {
+            tree: TokenTree::Leaf(ident_from(parts, symbols, p, is_raw)),
+            next: next,
+            children: children,
+        }),
+    }
 }
 
 fn literal_found(
@@ -217,11 +236,14 @@ fn literal_found(
     if row != 0 {
         return TreeRead::Refused(row);
     }
-    TreeRead::Got(TreeAt {
-        tree: TokenTree::Leaf(literal_from(parts, symbols, p)),
-        next: next,
-        children: children,
-    })
+    match lit_kind_from(p.kind, p.raw_count) {
+        LitKindRead::Bad(number) => TreeRead::Refused(number),
+        LitKindRead::Got(kind) => TreeRead::Got(TreeAt {
+            tree: TokenTree::Leaf(literal_from(parts, symbols, p, kind)),
+            next: next,
+            children: children,
+        }),
+    }
 }
 
 fn subtree_found(
@@ -249,11 +271,14 @@ fn subtree_found(
     if row != 0 {
         return TreeRead::Refused(row);
     }
-    TreeRead::Got(TreeAt {
-        tree: TokenTree::Subtree(subtree_from(parts, p)),
-        next: next,
-        children: children,
-    })
+    match delimiter_from(p.kind) {
+        DelimiterRead::Bad(number) => TreeRead::Refused(number),
+        DelimiterRead::Got(kind) => TreeRead::Got(TreeAt {
+            tree: TokenTree::Subtree(subtree_from(parts, p, kind)),
+            next: next,
+            children: children,
+        }),
+    }
 }
 
 fn found(parts: &[u32], symbols: &[u32], n: u32, at: usize, here: RawAt) -> TreeRead
@@ -274,8 +299,8 @@ fn found(parts: &[u32], symbols: &[u32], n: u32, at: usize, here: RawAt) -> Tree
     }
 }
 
-// Tree n at a place by its table entries, or the number of the first row that refuses it.
-pub fn decode(b: &[u8], parts: &[u32], symbols: &[u32], n: u32, at: usize) -> TreeRead
+// Tree n at a place by its table entries, or the number of the first of the rows 7, 2 and 8 that refuses it.
+pub fn decode_sized(b: &[u8], parts: &[u32], symbols: &[u32], n: u32, at: usize) -> TreeRead
     ensures { λ r. ⌜ r ≡ treeAnswer (decodedAt (now (b .entry)) (now (parts .entry)) (now (symbols .entry)) n at) ⌝ }
 {
     let read = raw_at(b, at);
@@ -283,4 +308,14 @@ pub fn decode(b: &[u8], parts: &[u32], symbols: &[u32], n: u32, at: usize) -> Tr
         RawRead::Bad(number) => TreeRead::Refused(number),
         RawRead::Got(here) => found(parts, symbols, n, at, here),
     }
+}
+
+// The same behind row 1 of the tables. A step asks row 1 first and calls the one above.
+pub fn decode(b: &[u8], parts: &[u32], symbols: &[u32], n: u32, at: usize) -> TreeRead
+    ensures { λ r. ⌜ r ≡ treeAnswer (decoded (now (b .entry)) (now (parts .entry)) (now (symbols .entry)) n at) ⌝ }
+{
+    if !tables_sized(parts, symbols) {
+        return TreeRead::Refused(1);
+    }
+    decode_sized(b, parts, symbols, n, at)
 }
