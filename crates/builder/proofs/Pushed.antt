@@ -1,135 +1,102 @@
--- A leaf that is pushed: row 2 on its words is row 2 on the leaf, and its thirteen words are its words.
-use Prim.Native.Nat.{ℕ, _+_, _*_, _/_, _%_, _≤_, _<_}
+-- Words that are pushed: row 2 on them, by the tree that they say; and of a leaf's words, row 2 on the leaf.
+use Prim.Native.Nat.{ℕ}
 use mathlib.Core.Bool.{Bool, true, false, not, _&&_}
 use mathlib.Core.Path.{_≡_, refl, sym, ap, _∙_}
 use mathlib.Core.List.{List, [], _∷_}
 use native.Mathlib.Omega.{arith}
-use borrow.Author.Tests.{le-leb, leb-true, eq-eqb}
-use lib.Dec.{leb, eqb}
-use lib.ListN.{length}
+use lib.Dec.{eqb}
+use lib.ListN.{length, getD}
 use Rattle.format.specs.Test.{if_then_else_}
-use Rattle.format.specs.Fields.{isScalar, isRawKind}
-use Rattle.format.specs.WordList.{rawFrom}
-use Rattle.format.specs.Root.{rangeFits}
+use Rattle.format.specs.WordList.{wordOf, wordFields}
 use Rattle.format.specs.Builder.{leafFits, leafWords}
-use Rattle.format.proofs.Each.{and-left, and-right, and₃}
-use Rattle.tree.specs.Types.{spacingWord, isRawWord, litKindWord, treeWordsOf}
-use Rattle.tree.specs.Words.{rawCount, tokenFits}
-use Rattle.tree.specs.declared.types.Spacing.{Spacing}
-use Rattle.tree.specs.declared.types.Spacing.the-variants.{Alone, Joint, JointHidden}
-use Rattle.tree.specs.declared.types.IdentIsRaw.{IdentIsRaw}
-use Rattle.tree.specs.declared.types.IdentIsRaw.the-variants.{No, Yes}
-use Rattle.tree.specs.declared.types.LitKind.{LitKind}
-use Rattle.tree.specs.declared.types.LitKind.the-variants.{Byte, Char, Integer, Float, Str, StrRaw, ByteStr, ByteStrRaw, CStr, CStrRaw, Err}
-use Rattle.tree.specs.declared.types.Literal.{Literal}
+use Rattle.tree.specs.Types.{treeWordsOf}
+use Rattle.tree.specs.Words.{treeFrom, wordsAnswer}
+use Rattle.tree.proofs.WordsAgain.{words-of-tree}
+use Rattle.tree.specs.declared.types.Subtree.{Subtree}
 use Rattle.tree.specs.declared.types.Leaf.{Leaf}
 use Rattle.tree.specs.declared.types.Leaf.the-variants as leaves
+use Rattle.tree.specs.declared.types.TokenTree.{TokenTree}
 use Rattle.tree.specs.declared.types.TokenTree.the-variants as trees
-use Rattle.builder.specs.Given.{wordsOf, pushed}
+use Rattle.tree.specs.declared.words.WordsRead.{WordsRead}
+use Rattle.tree.specs.declared.words.WordsRead.the-variants.{Got, Bad}
 
-spacing-small : (s : Spacing) → leb (spacingWord s) 2 ≡ true
-unfolding spacingWord
-spacing-small Alone = refl
-spacing-small Joint = refl
-spacing-small JointHidden = refl
+-- ---- what the tree says of the words
 
-raw-small : (r : IdentIsRaw) → leb (isRawWord r) 1 ≡ true
-unfolding isRawWord
-raw-small No = refl
-raw-small Yes = refl
+apart : {A : Type 0} (t : TokenTree) (k : ℕ) → Bad k ≡ Got t → A
+apart t k e = let z : _≡_ {A = ℕ} 0 1 = cc in absurd (omega arith)
 
--- the fields of a literal's second word
-record Parts (w k r x : ℕ) : Type 0 where
-  kind : w % 4294967296 % 256 ≡ k
-  raws : w % 4294967296 / 256 % 256 ≡ r
-  suffix : w % 4294967296 / 65536 ≡ x
-
-parts-of : (k r x : ℕ) → k ≤ 10 → r ≤ 255 → x ≤ 255 → Parts (k + 256 * r + 65536 * x) k r x
-parts-of k r x f g h =
-    let e : (k + 256 * r + 65536 * x) % 4294967296 ≡ k + 256 * r + 65536 * x = omega arith in
-    record { kind = rw e (omega arith); raws = rw e (omega arith); suffix = rw e (omega arith) }
-
-abbrev kindNumber : LitKind → ℕ
-kindNumber Byte = 0
-kindNumber Char = 1
-kindNumber Integer = 2
-kindNumber Float = 3
-kindNumber Str = 4
-kindNumber (StrRaw r) = 5
-kindNumber ByteStr = 6
-kindNumber (ByteStrRaw r) = 7
-kindNumber CStr = 8
-kindNumber (CStrRaw r) = 9
-kindNumber Err = 10
-
-record Numbered (k : LitKind) : Type 0 where
-  small : kindNumber k ≤ 10
-  word : litKindWord k ≡ kindNumber k + 256 * rawCount k
-  counts : leb (rawCount k) 255 ≡ true → (if isRawKind (kindNumber k) then leb (rawCount k) 255 else eqb (rawCount k) 0) ≡ true
-
-numbered : (k : LitKind) → Numbered k
-unfolding litKindWord rawCount
-numbered Byte = record { small = omega arith; word = refl; counts = λ h. refl }
-numbered Char = record { small = omega arith; word = refl; counts = λ h. refl }
-numbered Integer = record { small = omega arith; word = refl; counts = λ h. refl }
-numbered Float = record { small = omega arith; word = refl; counts = λ h. refl }
-numbered Str = record { small = omega arith; word = refl; counts = λ h. refl }
-numbered (StrRaw r) = record { small = omega arith; word = refl; counts = λ h. h }
-numbered ByteStr = record { small = omega arith; word = refl; counts = λ h. refl }
-numbered (ByteStrRaw r) = record { small = omega arith; word = refl; counts = λ h. h }
-numbered CStr = record { small = omega arith; word = refl; counts = λ h. refl }
-numbered (CStrRaw r) = record { small = omega arith; word = refl; counts = λ h. h }
-numbered Err = record { small = omega arith; word = refl; counts = λ h. refl }
-
-literal-fits : (p : Literal) → (rangeFits (wordsOf (p .span)) && leb (rawCount (p .kind)) 255 && leb (p .«suffix_len») 255) ≡ true
-    → leafFits (treeWordsOf (trees.Leaf (leaves.Literal p))) ≡ true
-unfolding treeWordsOf rawFrom
-literal-fits p h =
-    let k : LitKind = p .kind in
-    let x : ℕ = p .«suffix_len» in
-    let z = and₃ (rangeFits (wordsOf (p .span))) (leb (rawCount k) 255) (leb x 255) h in
-    let N = numbered k in
-    let w = N .word in
-    let P = parts-of (kindNumber k) (rawCount k) x (N .small) (leb-true _ _ (z .1)) (leb-true _ _ (z .2)) in
-    let e₁ = P .kind in
-    let e₂ = P .raws in
-    let e₃ = P .suffix in
-    let c = N .counts (z .1) in
-    let s = le-leb _ _ (N .small) in
-    let a = z .0 in
-    let b = z .2 in
-    rw (w, e₁, e₂, e₃) (simp (a, s, c, b))
-
-fits : (leaf : Leaf) → tokenFits (trees.Leaf leaf) ≡ true → leafFits (treeWordsOf (trees.Leaf leaf)) ≡ true
-unfolding treeWordsOf tokenFits rawFrom
-fits (leaves.Punct p) h =
-    let a = and-left (rangeFits (wordsOf (p .span))) (isScalar (p .char)) h in
-    let b = and-right (rangeFits (wordsOf (p .span))) (isScalar (p .char)) h in
-    let c = spacing-small (p .spacing) in
-    simp (a, b, c)
-fits (leaves.Ident p) h = let c = raw-small (p .«is_raw») in simp (h, c)
-fits (leaves.Literal p) h = literal-fits p h
-
-no-sort : leafFits (4 ∷ []) ≡ false
-unfolding rawFrom
-no-sort = refl
-
--- row 2 of a pushed leaf is row 2 of the leaf
-pub pushed-fits : (leaf : Leaf) → leafFits (pushed leaf) ≡ tokenFits (trees.Leaf leaf)
-unfolding pushed
-pushed-fits leaf = go (tokenFits (trees.Leaf leaf)) refl
+got-fields : (w : ℕ → ℕ) (t : TokenTree) → wordsAnswer w ≡ Got t → wordFields w ≡ true
+unfolding wordsAnswer
+got-fields w t e = go (wordFields w) refl
   where
-    go : (x : Bool) → tokenFits (trees.Leaf leaf) ≡ x → leafFits (if x then treeWordsOf (trees.Leaf leaf) else 4 ∷ []) ≡ x
-    go true e = fits leaf e
-    go false e = no-sort
+    go : (x : Bool) → wordFields w ≡ x → wordFields w ≡ true
+    go true f = f
+    go false f = let d : Bad 2 ≡ Got t = simp f at e in apart t 2 d
 
-thirteen-again : (leaf : Leaf) → leafWords (treeWordsOf (trees.Leaf leaf)) ≡ treeWordsOf (trees.Leaf leaf)
+bad-fields : (w : ℕ → ℕ) (k : ℕ) → wordsAnswer w ≡ Bad k → wordFields w ≡ false
+unfolding wordsAnswer
+bad-fields w k e = go (wordFields w) refl
+  where
+    go : (x : Bool) → wordFields w ≡ x → wordFields w ≡ false
+    go true f = let d : Got (treeFrom w) ≡ Bad k = simp f at e in apart (treeFrom w) k (sym d)
+    go false f = f
+
+leaf-sort : (x : Leaf) → eqb (getD (treeWordsOf (trees.Leaf x)) 0 0) 3 ≡ false
 unfolding treeWordsOf
-thirteen-again (leaves.Punct p) = refl
-thirteen-again (leaves.Ident p) = refl
-thirteen-again (leaves.Literal p) = refl
+leaf-sort (leaves.Punct p) = refl
+leaf-sort (leaves.Ident p) = refl
+leaf-sort (leaves.Literal p) = refl
 
--- what is stored
-pub pushed-words : (leaf : Leaf) → leafFits (pushed leaf) ≡ true → leafWords (pushed leaf) ≡ treeWordsOf (trees.Leaf leaf)
-unfolding pushed
-pushed-words leaf h = let e = sym (pushed-fits leaf) ∙ h in simp e (thirteen-again leaf)
+subtree-sort : (p : Subtree) → eqb (getD (treeWordsOf (trees.Subtree p)) 0 0) 3 ≡ true
+unfolding treeWordsOf
+subtree-sort p = refl
+
+-- no subtree, and row 2 is silent
+is-leaf : (a b : Bool) → a ≡ false → b ≡ true → true ≡ (not a && b)
+is-leaf a b e f = rw (e, f)
+
+no-leaf : (a b : Bool) → a ≡ true → false ≡ (not a && b)
+no-leaf a b e = rw e
+
+no-words : (a b : Bool) → b ≡ false → false ≡ (not a && b)
+no-words true b e = refl
+no-words false b e = sym e
+
+module _ (w : List ℕ) (r : WordsRead) (e : r ≡ wordsAnswer (wordOf w 0)) where
+  pub words-none : (k : ℕ) → r ≡ Bad k → false ≡ leafFits w
+  words-none k q = no-words (eqb (getD w 0 0) 3) (wordFields (wordOf w 0)) (bad-fields (wordOf w 0) k (sym e ∙ q))
+
+  module _ (t : TokenTree) (q : r ≡ Got t) where
+    first : getD (treeWordsOf t) 0 0 ≡ getD w 0 0
+    first = ap (λ (l : List ℕ). getD l 0 0) (words-of-tree (wordOf w 0) t (sym e ∙ q))
+
+    sorted : (u : TokenTree) → t ≡ u → eqb (getD w 0 0) 3 ≡ eqb (getD (treeWordsOf u) 0 0) 3
+    sorted u k = ap (λ (n : ℕ). eqb n 3) (sym first) ∙ ap (λ (v : TokenTree). eqb (getD (treeWordsOf v) 0 0) 3) k
+
+    pub words-leaf : (x : Leaf) → t ≡ trees.Leaf x → true ≡ leafFits w
+    words-leaf x k =
+        is-leaf (eqb (getD w 0 0) 3) (wordFields (wordOf w 0)) (sorted (trees.Leaf x) k ∙ leaf-sort x) (got-fields (wordOf w 0) t (sym e ∙ q))
+
+    pub words-subtree : (p : Subtree) → t ≡ trees.Subtree p → false ≡ leafFits w
+    words-subtree p k = no-leaf (eqb (getD w 0 0) 3) (wordFields (wordOf w 0)) (sorted (trees.Subtree p) k ∙ subtree-sort p)
+
+pub ruleset words-fit-cases = (words-none, words-leaf, words-subtree)
+
+-- ---- what is stored: thirteen words are themselves
+
+pub words-whole : (w : List ℕ) → length w ≡ 13 → leafWords w ≡ w
+words-whole [] e = absurd (omega arith)
+words-whole (x₀ ∷ []) e = absurd (omega arith)
+words-whole (x₀ ∷ x₁ ∷ []) e = absurd (omega arith)
+words-whole (x₀ ∷ x₁ ∷ x₂ ∷ []) e = absurd (omega arith)
+words-whole (x₀ ∷ x₁ ∷ x₂ ∷ x₃ ∷ []) e = absurd (omega arith)
+words-whole (x₀ ∷ x₁ ∷ x₂ ∷ x₃ ∷ x₄ ∷ []) e = absurd (omega arith)
+words-whole (x₀ ∷ x₁ ∷ x₂ ∷ x₃ ∷ x₄ ∷ x₅ ∷ []) e = absurd (omega arith)
+words-whole (x₀ ∷ x₁ ∷ x₂ ∷ x₃ ∷ x₄ ∷ x₅ ∷ x₆ ∷ []) e = absurd (omega arith)
+words-whole (x₀ ∷ x₁ ∷ x₂ ∷ x₃ ∷ x₄ ∷ x₅ ∷ x₆ ∷ x₇ ∷ []) e = absurd (omega arith)
+words-whole (x₀ ∷ x₁ ∷ x₂ ∷ x₃ ∷ x₄ ∷ x₅ ∷ x₆ ∷ x₇ ∷ x₈ ∷ []) e = absurd (omega arith)
+words-whole (x₀ ∷ x₁ ∷ x₂ ∷ x₃ ∷ x₄ ∷ x₅ ∷ x₆ ∷ x₇ ∷ x₈ ∷ x₉ ∷ []) e = absurd (omega arith)
+words-whole (x₀ ∷ x₁ ∷ x₂ ∷ x₃ ∷ x₄ ∷ x₅ ∷ x₆ ∷ x₇ ∷ x₈ ∷ x₉ ∷ x₁₀ ∷ []) e = absurd (omega arith)
+words-whole (x₀ ∷ x₁ ∷ x₂ ∷ x₃ ∷ x₄ ∷ x₅ ∷ x₆ ∷ x₇ ∷ x₈ ∷ x₉ ∷ x₁₀ ∷ x₁₁ ∷ []) e = absurd (omega arith)
+words-whole (x₀ ∷ x₁ ∷ x₂ ∷ x₃ ∷ x₄ ∷ x₅ ∷ x₆ ∷ x₇ ∷ x₈ ∷ x₉ ∷ x₁₀ ∷ x₁₁ ∷ x₁₂ ∷ []) e = refl
+words-whole (x₀ ∷ x₁ ∷ x₂ ∷ x₃ ∷ x₄ ∷ x₅ ∷ x₆ ∷ x₇ ∷ x₈ ∷ x₉ ∷ x₁₀ ∷ x₁₁ ∷ x₁₂ ∷ x₁₃ ∷ w) e = absurd (omega arith)

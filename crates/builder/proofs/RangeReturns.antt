@@ -1,13 +1,14 @@
 -- One law for each return of the functions of src/range.rt, with premises as the code's tests and calls give them.
-use Prim.Native.Nat.{ℕ, _+_, _*_, _-_, _≤_, _<_}
+use Prim.Native.Nat.{ℕ, _+_, _*_, _≤_, _<_}
 use mathlib.Core.Bool.{Bool, true, false, not, _&&_}
 use mathlib.Core.Path.{_≡_, refl, sym, ap, _∙_}
 use native.Mathlib.Omega.{arith}
 use borrow.Author.Tests.{le-leb, lt-leb, not-true, not-false}
 use lib.Dec.{leb}
+use mathlib.Core.List.{List}
 use Rattle.format.specs.Fields.{isScalar}
 use Rattle.format.specs.Root.{rangeFits}
-use Rattle.tree.specs.Types.{litKindWord}
+use Rattle.tree.specs.Types.{litKindWord, treeWordsOf}
 use Rattle.tree.specs.Words.{rawCount, tokenFits}
 use Rattle.tree.specs.declared.types.Span.{Span}
 use Rattle.tree.specs.declared.types.LitKind.{LitKind}
@@ -18,16 +19,7 @@ use Rattle.tree.specs.declared.types.Literal.{Literal}
 use Rattle.tree.specs.declared.types.Leaf.{Leaf}
 use Rattle.tree.specs.declared.types.Leaf.the-variants as leaves
 use Rattle.tree.specs.declared.types.TokenTree.the-variants as trees
-use Rattle.builder.specs.Given.{wordsOf}
-
-module _ (s : Span) (n : s .start < 4294967296) where
-  pub range-out : 4294967295 - s .start < s .len → false ≡ rangeFits (wordsOf s)
-  range-out h = sym (lt-leb (s .start + s .len) 4294967295 (omega arith))
-
-  pub range-in : s .len ≤ 4294967295 - s .start → true ≡ rangeFits (wordsOf s)
-  range-in h = sym (le-leb (s .start + s .len) 4294967295 (omega arith))
-
-pub ruleset range-cases = (range-out, range-in)
+use Rattle.builder.specs.Given.{wordsOf, noTree, pushed}
 
 -- ---- a literal's kind by its word
 
@@ -109,3 +101,16 @@ module _ (x : Bool) where
     leaf-literal p e f = f ∙ rw e
 
 pub ruleset leaf-cases = (punct-span, punct-char, literal-span, literal-raw, literal-suffix, literal-ok, leaf-punct, leaf-ident, leaf-literal)
+
+-- ---- its words
+
+module _ (leaf : Leaf) (x : Bool) (e : x ≡ tokenFits (trees.Leaf leaf)) where
+  pub leaf-none : not x ≡ true → noTree ≡ pushed leaf
+  unfolding pushed
+  leaf-none h = let d : tokenFits (trees.Leaf leaf) ≡ false = sym e ∙ not-true x h in rw d
+
+  pub leaf-some : not x ≡ false → (ws : List ℕ) → ws ≡ treeWordsOf (trees.Leaf leaf) → ws ≡ pushed leaf
+  unfolding pushed
+  leaf-some h ws f = let d : tokenFits (trees.Leaf leaf) ≡ true = sym e ∙ not-false x h in f ∙ rw d
+
+pub ruleset words-cases = (leaf-none, leaf-some)

@@ -12,15 +12,10 @@ use Rattle.format.specs.WordList.{listCount}
 use Rattle.format.specs.Root.{WordSpan, rangeFits}
 use Rattle.format.specs.Builder.{Builder, leafFits, disagrees, newVerdict, room, pushVerdict, openVerdict, closeVerdict}
 use Rattle.tree.specs.Refusal.{verdictAnswer}
-use Rattle.tree.specs.Words.{tokenFits}
 use Rattle.tree.specs.declared.refusal.Verdict.{Verdict as Answer}
 use Rattle.tree.specs.declared.refusal.Verdict.the-variants.{Passed, Refused}
-use Rattle.tree.specs.declared.types.Leaf.{Leaf}
-use Rattle.tree.specs.declared.types.TokenTree.the-variants as trees
 use Rattle.builder.specs.State.{numbers, stateOf}
-use Rattle.builder.specs.Given.{pushed}
 use Rattle.builder.proofs.Numbers.{numbers-length}
-use Rattle.builder.proofs.Pushed.{pushed-fits}
 
 pub refused-is : (r n : ℕ) → Refused (record { number = r; tree = n }) ≡ verdictAnswer (refused r n)
 unfolding verdictAnswer
@@ -56,8 +51,8 @@ module _ (l a : List ℕ) (n d : ℕ) (x : Bool) (e : x ≡ disagrees l (stateOf
       no : disagrees l (stateOf n d a) ≡ true
       no = sym e ∙ h
 
-      pub push-10 : (leaf : Leaf) → z ≡ verdictAnswer (pushVerdict l (stateOf n d a) (pushed leaf))
-      push-10 leaf = same z _ _ f (simp no)
+      pub push-10 : (w : List ℕ) → z ≡ verdictAnswer (pushVerdict l (stateOf n d a) w)
+      push-10 w = same z _ _ f (simp no)
 
       pub open-10 : (kind : ℕ) (s : WordSpan) → z ≡ verdictAnswer (openVerdict l (stateOf n d a) kind s)
       open-10 kind s = same z _ _ f (simp no)
@@ -69,12 +64,12 @@ module _ (l a : List ℕ) (n d : ℕ) (x : Bool) (e : x ≡ disagrees l (stateOf
       yes : disagrees l (stateOf n d a) ≡ false
       yes = sym e ∙ h
 
-      module _ (leaf : Leaf) (y : Bool) (g : y ≡ tokenFits (trees.Leaf leaf)) where
-        pub push-2 : not y ≡ true → z ≡ verdictAnswer (refused 2 n) → z ≡ verdictAnswer (pushVerdict l (stateOf n d a) (pushed leaf))
-        push-2 k f = let q : leafFits (pushed leaf) ≡ false = pushed-fits leaf ∙ sym g ∙ not-true y k in same z _ _ f (simp (yes, q))
+      module _ (w : List ℕ) (y : Bool) (g : y ≡ leafFits w) where
+        pub push-2 : not y ≡ true → z ≡ verdictAnswer (refused 2 n) → z ≡ verdictAnswer (pushVerdict l (stateOf n d a) w)
+        push-2 k f = let q : leafFits w ≡ false = sym g ∙ not-true y k in same z _ _ f (simp (yes, q))
 
-        pub push-room : not y ≡ false → z ≡ verdictAnswer (room l (stateOf n d a)) → z ≡ verdictAnswer (pushVerdict l (stateOf n d a) (pushed leaf))
-        push-room k f = let q : leafFits (pushed leaf) ≡ true = pushed-fits leaf ∙ sym g ∙ not-false y k in same z _ _ f (simp (yes, q))
+        pub push-room : not y ≡ false → z ≡ verdictAnswer (room l (stateOf n d a)) → z ≡ verdictAnswer (pushVerdict l (stateOf n d a) w)
+        push-room k f = let q : leafFits w ≡ true = sym g ∙ not-false y k in same z _ _ f (simp (yes, q))
 
       module _ (kind : ℕ) (s : WordSpan) where
         pub open-kind : 3 < kind → z ≡ verdictAnswer (refused 2 n) → z ≡ verdictAnswer (openVerdict l (stateOf n d a) kind s)

@@ -17,21 +17,20 @@ use Rattle.format.proofs.Each.{both, rule-passed}
 use Rattle.format.proofs.Framed.{Below}
 use Rattle.format.proofs.BuilderRun.{after-step}
 use Rattle.format.proofs.BuilderRestore.{Agrees, agrees-is, fit-below}
-use Rattle.tree.specs.Types.{treeWordsOf}
 use Rattle.tree.specs.Refusal.{verdictAnswer}
 use Rattle.tree.specs.declared.refusal.Refusal.{Refusal}
 use Rattle.tree.specs.declared.refusal.Verdict.{Verdict as Answer}
 use Rattle.tree.specs.declared.refusal.Verdict.the-variants.{Passed, Refused}
 use Rattle.tree.specs.declared.types.Span.{Span}
 use Rattle.tree.specs.declared.types.Leaf.{Leaf}
-use Rattle.tree.specs.declared.types.TokenTree.the-variants as trees
 use Rattle.builder.specs.declared.state.Builder.{Builder}
+use Rattle.builder.specs.declared.state.Stepped.{Stepped}
 use Rattle.builder.specs.State.{numbers, stateOf, seen, closedAt}
 use Rattle.builder.specs.Given.{wordsOf, pushed}
 use Rattle.builder.specs.Taken.{noneOpen, Begun, after, Taken}
 use Rattle.builder.proofs.Answers.{answer-passed, answer-refused}
 use Rattle.builder.proofs.Numbers.{numbers-length, numbers-down}
-use Rattle.builder.proofs.Pushed.{pushed-words}
+use Rattle.builder.proofs.Pushed.{words-whole}
 
 -- ---- new
 
@@ -108,31 +107,34 @@ roomy l b h =
 
 -- ---- push
 
-module _ (b : Builder) (l : List ℕ) (leaf : Leaf) (v : Answer) (e : v ≡ verdictAnswer (pushVerdict l (seen b) (pushed leaf))) where
-  pub push-refused : (x : Refusal) → v ≡ Refused x → Taken (push (pushed leaf)) b l (record { verdict = v; builder = b }) l
-  push-refused x h = step-refused (push (pushed leaf)) b l v e x h
+module _ (b : Builder) (l w : List ℕ) (v : Answer) (e : v ≡ verdictAnswer (pushVerdict l (seen b) w)) where
+  pub push-refused : (x : Refusal) → v ≡ Refused x → Taken (push w) b l (record { verdict = v; builder = b }) l
+  push-refused x h = step-refused (push w) b l v e x h
 
   module _ (h : v ≡ Passed) where
-    said : (agreed l (seen b) ≡ passed) × ((rule (leafFits (pushed leaf)) 2 (b .count) andThen room l (seen b)) ≡ passed)
-    said = both (agreed l (seen b)) (rule (leafFits (pushed leaf)) 2 (b .count) andThen room l (seen b)) (answer-passed (pushVerdict l (seen b) (pushed leaf)) (sym e ∙ h))
+    said : (agreed l (seen b) ≡ passed) × ((rule (leafFits w) 2 (b .count) andThen room l (seen b)) ≡ passed)
+    said = both (agreed l (seen b)) (rule (leafFits w) 2 (b .count) andThen room l (seen b)) (answer-passed (pushVerdict l (seen b) w) (sym e ∙ h))
 
-    then : (rule (leafFits (pushed leaf)) 2 (b .count) ≡ passed) × (room l (seen b) ≡ passed)
-    then = both (rule (leafFits (pushed leaf)) 2 (b .count)) (room l (seen b)) (said .1)
+    then : (rule (leafFits w) 2 (b .count) ≡ passed) × (room l (seen b) ≡ passed)
+    then = both (rule (leafFits w) 2 (b .count)) (room l (seen b)) (said .1)
 
-    pub push-room : (ws : List ℕ) → length ws ≡ 13 → (m : ℕ) → m ≡ b .count → 13 * m + length ws ≤ length l
-    push-room ws k m f = let z = roomy l (seen b) (then .1) .inRun in omega arith
+    pub push-room : length w ≡ 13 → (m : ℕ) → m ≡ b .count → 13 * m + length w ≤ length l
+    push-room k m f = let z = roomy l (seen b) (then .1) .inRun in omega arith
 
     pub push-small : b .count + 1 < 4294967296
     push-small = let z = roomy l (seen b) (then .1) .many in omega arith
 
-    pub push-done : (ws : List ℕ) → ws ≡ treeWordsOf (trees.Leaf leaf) → (m : ℕ) → m ≡ b .count → (l′ : List ℕ) → l′ ≡ put l (13 * m) ws
-        → Taken (push (pushed leaf)) b l (record { verdict = v; builder = record { count = b .count + 1; depth = b .depth; opened = b .opened } }) l′
+    pub push-done : length w ≡ 13 → (m : ℕ) → m ≡ b .count → (l′ : List ℕ) → l′ ≡ put l (13 * m) w
+        → Taken (push w) b l (record { verdict = v; builder = record { count = b .count + 1; depth = b .depth; opened = b .opened } }) l′
     unfolding after
-    push-done ws g m f l′ k =
-        let w = pushed-words leaf (rule-passed (leafFits (pushed leaf)) 2 (b .count) (then .0)) in
-        step-passed (push (pushed leaf)) b l v e h (record { count = b .count + 1; depth = b .depth; opened = b .opened }) refl l′ (k ∙ rw (f, g, w))
+    push-done g m f l′ k =
+        step-passed (push w) b l v e h (record { count = b .count + 1; depth = b .depth; opened = b .opened }) refl l′ (k ∙ rw (f, words-whole w g))
 
-pub ruleset push-cases = (push-refused, push-room, push-small, push-done)
+-- the words of a leaf
+pub push-leaf : (b : Builder) (l w : List ℕ) (leaf : Leaf) (r : Stepped) (l′ : List ℕ) → w ≡ pushed leaf → Taken (push w) b l r l′ → Taken (push (pushed leaf)) b l r l′
+push-leaf b l w leaf r l′ e t = subst (λ (x : List ℕ). Taken (push x) b l r l′) e t
+
+pub ruleset push-cases = (push-refused, push-room, push-small, push-done, push-leaf)
 
 -- ---- open
 

@@ -14,5 +14,8 @@ wordsOf s = record { file = s .file; ast = s .«ast_id»; context = s .context; 
 
 -- a leaf that is pushed, by its 13 words. A raw count or a suffix length above 255 has no place in them ("kind + 256 × raw count +
 -- 65,536 × suffix length"): a leaf out of range stands as a tree of no sort, which row 2 refuses too
+abbrev pub noTree : List ℕ
+noTree = 4 ∷ 0 ∷ 0 ∷ 0 ∷ 0 ∷ 0 ∷ 0 ∷ 0 ∷ 0 ∷ 0 ∷ 0 ∷ 0 ∷ 0 ∷ []
+
 unfoldable pub pushed : Leaf → List ℕ
-pushed leaf = if tokenFits (trees.Leaf leaf) then treeWordsOf (trees.Leaf leaf) else 4 ∷ []
+pushed leaf = if tokenFits (trees.Leaf leaf) then treeWordsOf (trees.Leaf leaf) else noTree

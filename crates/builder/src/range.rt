@@ -1,25 +1,27 @@
-// Row 2 of what a step is given, and a subtree's words.
+// Row 2 of what a step is given, and the words of it.
+use pack::span::range_fits;
 use tree::fields::is_scalar;
 use tree::kinds::lit_kind_word;
 use tree::types::Leaf;
 use tree::types::Literal;
 use tree::types::Punct;
 use tree::types::Span;
+use tree::types::TokenTree;
+use tree::words::WordsRead;
+use tree::words::tree_from_words;
+use tree::words::tree_words;
 ghost use mathlib.Core.Path.{_≡_};
 ghost use Rattle.format.specs.Root.{rangeFits};
-ghost use Rattle.format.specs.Builder.{subtreeWords};
+ghost use Rattle.format.specs.Builder.{leafFits, subtreeWords};
 ghost use Rattle.tree.specs.Words.{tokenFits};
 ghost use Rattle.tree.specs.declared.types.TokenTree.the-variants as trees;
 ghost use Rattle.tree.specs.declared.types.Leaf.the-variants as leaves;
-ghost use Rattle.builder.specs.Given.{wordsOf};
+ghost use Rattle.builder.specs.Given.{wordsOf, pushed};
 
-pub fn span_fits(span: Span) -> bool
+pub(crate) fn span_fits(span: Span) -> bool
     ensures { λ r. ⌜ r ≡ rangeFits (wordsOf span) ⌝ }
 {
-    if 4294967295 - span.start < span.len {
-        return false;
-    }
-    true
+    range_fits(span.start, span.len)
 }
 
 fn punct_fits(p: Punct) -> bool
@@ -50,7 +52,7 @@ fn literal_fits(p: Literal) -> bool
     true
 }
 
-pub fn leaf_fits(leaf: Leaf) -> bool
+pub(crate) fn leaf_fits(leaf: Leaf) -> bool
     ensures { λ r. ⌜ r ≡ tokenFits (trees.Leaf leaf) ⌝ }
 {
     match leaf {
@@ -60,8 +62,31 @@ pub fn leaf_fits(leaf: Leaf) -> bool
     }
 }
 
+// Whether words say a leaf.
+pub(crate) fn words_fit(words: &[u32; 13]) -> bool
+    ensures { λ r. ⌜ r ≡ leafFits (now (words .entry)) ⌝ }
+{
+    match tree_from_words(words) {
+        WordsRead::Bad(_) => false,
+        WordsRead::Got(tree) => match tree {
+            TokenTree::Leaf(_) => true,
+            TokenTree::Subtree(_) => false,
+        },
+    }
+}
+
+// The words of a leaf; those of no tree where it is out of range, since it may have no place in words.
+pub(crate) fn leaf_words(leaf: Leaf) -> [u32; 13]
+    ensures { λ r. ⌜ r ≡ pushed leaf ⌝ }
+{
+    if !leaf_fits(leaf) {
+        return [4, 0, 0, 0, 0, 0, 0, 0, 0, 0, 0, 0, 0];
+    }
+    tree_words(TokenTree::Leaf(leaf))
+}
+
 // The words of a subtree that holds nothing yet.
-pub fn subtree_words(kind: u32, opening: Span, closing: Span) -> [u32; 13]
+pub(crate) fn subtree_words(kind: u32, opening: Span, closing: Span) -> [u32; 13]
     ensures { λ r. ⌜ r ≡ subtreeWords 0 kind (wordsOf opening) (wordsOf closing) ⌝ }
 {
     [

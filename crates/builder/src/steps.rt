@@ -1,7 +1,8 @@
 // `new`, `push`, `open`, `close`: each step's refusals in turn, then its stores.
-use crate::range::leaf_fits;
+use crate::range::leaf_words;
 use crate::range::span_fits;
 use crate::range::subtree_words;
+use crate::range::words_fit;
 use crate::state::Builder;
 use crate::state::MOST_OPEN;
 use crate::state::Stepped;
@@ -13,8 +14,6 @@ use tree::refusal::Refusal;
 use tree::refusal::Verdict;
 use tree::types::Leaf;
 use tree::types::Span;
-use tree::types::TokenTree;
-use tree::words::tree_words;
 ghost use mathlib.Core.Path.{_≡_};
 ghost use Prim.Native.Nat.{_<_};
 ghost use Rattle.format.specs.Verdict.{refused};
@@ -48,14 +47,20 @@ fn room_verdict(list: &[u32], count: u32, depth: usize, opened: &[u32; 256]) -> 
     Verdict::Passed
 }
 
-fn push_verdict(list: &[u32], count: u32, depth: usize, opened: &[u32; 256], leaf: Leaf) -> Verdict
+fn push_verdict(
+    list: &[u32],
+    count: u32,
+    depth: usize,
+    opened: &[u32; 256],
+    words: &[u32; 13],
+) -> Verdict
     ensures { λ r. ⌜ r ≡ verdictAnswer
-        (pushVerdict (now (list .entry)) (stateOf count depth (now (opened .entry))) (pushed leaf)) ⌝ }
+        (pushVerdict (now (list .entry)) (stateOf count depth (now (opened .entry))) (now (words .entry))) ⌝ }
 {
     if disagrees(list, count, depth, opened) {
         return refused(10, count);
     }
-    if !leaf_fits(leaf) {
+    if !words_fit(words) {
         return refused(2, count);
     }
     room_verdict(list, count, depth, opened)
@@ -155,18 +160,25 @@ impl Builder {
         }
     }
 
-    pub fn push(mut self, list: &mut [u32], leaf: Leaf) -> Stepped
+    pub fn push(self, list: &mut [u32], leaf: Leaf) -> Stepped
         ensures { λ r. ⌜ Taken (push (pushed leaf)) self (now (list .entry)) r (now (list .exit)) ⌝ }
     {
-        let verdict = push_verdict(list, self.count, self.depth, &self.opened, leaf);
+        let words = leaf_words(leaf);
+        self.push_words(list, &words)
+    }
+
+    // A leaf by its list words, of which row 2 is asked as they are.
+    pub fn push_words(mut self, list: &mut [u32], words: &[u32; 13]) -> Stepped
+        ensures { λ r. ⌜ Taken (push (now (words .entry))) self (now (list .entry)) r (now (list .exit)) ⌝ }
+    {
+        let verdict = push_verdict(list, self.count, self.depth, &self.opened, words);
         match verdict {
             Verdict::Refused(_) => Stepped {
                 verdict: verdict,
                 builder: self,
             },
             Verdict::Passed => {
-                let words = tree_words(TokenTree::Leaf(leaf));
-                put_words(list, 13 * place(self.count), &words);
+                put_words(list, 13 * place(self.count), words);
                 self.count = self.count + 1;
                 Stepped {
                     verdict: verdict,

@@ -315,33 +315,14 @@ pub ruleset stop-cases = (stop-unread, stop-inside, stop-place, stop-later, stop
 
 -- ---- row 1
 
-module _ (s : Sizes) where
-  pub few-trees : s .trees < 1 → false ≡ isSized s
-  few-trees h = simp (lt-leb 1 (s .trees) h)
+module _ (s : Sizes) (t : Bool) (e : t ≡ (leb 1 (s .trees) && leb (s .trees) 1048576)) where
+  pub sized-trees : not t ≡ true → false ≡ isSized s
+  sized-trees h = let q : (leb 1 (s .trees) && leb (s .trees) 1048576) ≡ false = sym e ∙ not-true t h in rw q
 
-  module _ (h₁ : 1 ≤ s .trees) where
-    pub many-trees : 1048576 < s .trees → false ≡ isSized s
-    many-trees h = simp (le-leb 1 (s .trees) h₁, lt-leb (s .trees) 1048576 h)
+  pub sized-counts : not t ≡ false → (r : Bool) → r ≡ tablesSized (s .parts) (s .symbols) → r ≡ isSized s
+  sized-counts h r f = let q : (leb 1 (s .trees) && leb (s .trees) 1048576) ≡ true = sym e ∙ not-false t h in f ∙ rw q
 
-    module _ (h₂ : s .trees ≤ 1048576) where
-      pub few-parts : s .parts < 2 → false ≡ isSized s
-      few-parts h = simp (le-leb 1 (s .trees) h₁, le-leb (s .trees) 1048576 h₂, lt-leb 2 (s .parts) h)
-
-      module _ (h₃ : 2 ≤ s .parts) where
-        pub many-parts : 2097152 < s .parts → false ≡ isSized s
-        many-parts h = simp (le-leb 1 (s .trees) h₁, le-leb (s .trees) 1048576 h₂, le-leb 2 (s .parts) h₃, lt-leb (s .parts) 2097152 h)
-
-        module _ (h₄ : s .parts ≤ 2097152) where
-          front : isSized s ≡ leb (s .symbols) 1048576
-          front = simp (le-leb 1 (s .trees) h₁, le-leb (s .trees) 1048576 h₂, le-leb 2 (s .parts) h₃, le-leb (s .parts) 2097152 h₄)
-
-          pub many-symbols : 1048576 < s .symbols → false ≡ isSized s
-          many-symbols h = sym (front ∙ lt-leb (s .symbols) 1048576 h)
-
-          pub all-sized : s .symbols ≤ 1048576 → true ≡ isSized s
-          all-sized h = sym (front ∙ le-leb (s .symbols) 1048576 h)
-
-pub ruleset sized-cases = (few-trees, many-trees, few-parts, many-parts, many-symbols, all-sized)
+pub ruleset sized-cases = (sized-trees, sized-counts)
 
 -- ---- check
 

@@ -6,6 +6,8 @@ use crate::glance::glance_at;
 use tree::raw::place;
 use tree::refusal::Refusal;
 use tree::refusal::Verdict;
+use tree::sizes::counts_sized;
+use tree::sizes::trees_sized;
 ghost use Prim.Native.Nat.{_+_, _<_, _≤_};
 ghost use mathlib.Core.Path.{_≡_};
 ghost use Rattle.format.specs.Verdict as verdict;
@@ -216,22 +218,10 @@ fn finish(b: &[u8], sizes: Sizes, ran: Ran) -> Verdict
 fn is_sized(sizes: Sizes) -> bool
     ensures { λ r. ⌜ r ≡ isSized sizes ⌝ }
 {
-    if sizes.trees < 1 {
+    if !trees_sized(sizes.trees) {
         return false;
     }
-    if 1048576 < sizes.trees {
-        return false;
-    }
-    if sizes.parts < 2 {
-        return false;
-    }
-    if 2097152 < sizes.parts {
-        return false;
-    }
-    if 1048576 < sizes.symbols {
-        return false;
-    }
-    true
+    counts_sized(sizes.parts, sizes.symbols)
 }
 
 // The check by the sizes of the tables: no entry is looked at.

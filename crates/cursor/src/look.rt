@@ -4,7 +4,7 @@ use crate::open::lies_inside;
 use crate::plan::Answer;
 use crate::state::At;
 use decode::decode::TreeRead;
-use decode::decode::decode;
+use decode::decode::decode_sized;
 use tree::refusal::Refusal;
 use tree::types::Leaf;
 use tree::types::Punct;
@@ -41,7 +41,7 @@ fn refused(number: u32, tree: u32) -> Answer
 fn tree_here(b: &[u8], parts: &[u32], symbols: &[u32], at: At) -> Answer
     ensures { λ r. ⌜ Here (now (b .entry)) (now (parts .entry)) (now (symbols .entry)) at r ⌝ }
 {
-    let read = decode(b, parts, symbols, at.number, at.place);
+    let read = decode_sized(b, parts, symbols, at.number, at.place);
     match read {
         TreeRead::Refused(number) => refused(number, at.number),
         TreeRead::Got(here) => {
@@ -118,7 +118,7 @@ fn second(
     requires { ⌜ number + 1 < 4294967296 ⌝ }
     ensures { λ r. ⌜ Second (now (b .entry)) (now (parts .entry)) (now (symbols .entry)) number place near r ⌝ }
 {
-    let read = decode(b, parts, symbols, number + 1, place);
+    let read = decode_sized(b, parts, symbols, number + 1, place);
     match read {
         TreeRead::Refused(refusal) => no_leaves(refused(refusal, number + 1)),
         TreeRead::Got(here) => {
@@ -141,7 +141,7 @@ fn first(b: &[u8], parts: &[u32], symbols: &[u32], at: At) -> TwoLeaves
     requires { ⌜ at .number + 1 < 4294967296 ⌝ }
     ensures { λ r. ⌜ First (now (b .entry)) (now (parts .entry)) (now (symbols .entry)) at r ⌝ }
 {
-    let read = decode(b, parts, symbols, at.number, at.place);
+    let read = decode_sized(b, parts, symbols, at.number, at.place);
     match read {
         TreeRead::Refused(number) => no_leaves(refused(number, at.number)),
         TreeRead::Got(here) => {

@@ -5,7 +5,7 @@ use crate::state::At;
 use crate::state::MOST_OPEN;
 use decode::decode::TreeAt;
 use decode::decode::TreeRead;
-use decode::decode::decode;
+use decode::decode::decode_sized;
 use decode::judge::tree_at;
 use tree::raw::Descendants;
 use tree::raw::RawAt;
@@ -143,7 +143,7 @@ fn shut_last<'a>(
 {
     let last = at.depth - 1;
     let number = numbers[last];
-    let read = decode(b, parts, symbols, number, places[last]);
+    let read = decode_sized(b, parts, symbols, number, places[last]);
     match read {
         TreeRead::Refused(refused) => refuse(refused, number),
         TreeRead::Got(here) => shut(here, counts[last]),

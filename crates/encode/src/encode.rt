@@ -131,6 +131,14 @@ fn put_three(out: &mut [u8], at: usize, a: u32, b: u32, c: u32)
     put_byte(out, at + 2, c);
 }
 
+// A control byte and both counts, a byte each.
+fn put_counts(out: &mut [u8], at: usize, control: u32, len: Descendants, children: ChildrenBytes)
+    requires { ⌜ (at + 3 ≤ length (now out)) × (control < 256) × (len .0 < 256) × (children .0 < 256) ⌝ }
+    ensures { λ _. ⌜ now (out .exit) ≡ put (now (out .entry)) at (control ∷ len .0 ∷ children .0 ∷ []) ⌝ }
+{
+    put_three(out, at, control, len.0, children.0);
+}
+
 // ---- leaves, form by form
 
 fn put_ascii(out: &mut [u8], at: usize, p: RawPunct)
@@ -231,12 +239,12 @@ fn put_brackets(out: &mut [u8], at: usize, p: RawSubtree, children: ChildrenByte
         len: distance,
     };
     let next = put_span(out, at, span, 0);
-    put_three(
+    put_counts(
         out,
         next,
         8 * p.kind + 32 * (distance / 256),
-        p.len.0,
-        children.0,
+        p.len,
+        children,
     );
 }
 
@@ -252,12 +260,12 @@ fn put_equal(out: &mut [u8], at: usize, p: RawSubtree, children: ChildrenBytes)
 {
     let distance = p.closing.start - p.opening.start;
     let next = put_span(out, at, p.opening, 0);
-    put_three(
+    put_counts(
         out,
         next,
         1 + 8 * p.kind + 32 * distance,
-        p.len.0,
-        children.0,
+        p.len,
+        children,
     );
 }
 

@@ -4,6 +4,7 @@ use pack::span::span_size;
 use pack::symbol::symbol_size;
 use tree::fields::is_raw_kind;
 use tree::raw::ChildrenBytes;
+use tree::raw::Descendants;
 use tree::raw::RawIdent;
 use tree::raw::RawLiteral;
 use tree::raw::RawPunct;
@@ -49,13 +50,13 @@ fn is_near(opening: PackedSpan, closing: PackedSpan, most: u32) -> bool
 }
 
 // Whether the descendants fit a byte, and their bytes a limit.
-fn is_few(len: u32, children: u32, most: u32) -> bool
-    ensures { λ r. ⌜ r ≡ (leb len 255 && leb children most) ⌝ }
+fn is_few(len: Descendants, children: ChildrenBytes, most: u32) -> bool
+    ensures { λ r. ⌜ r ≡ (leb (len .0) 255 && leb (children .0) most) ⌝ }
 {
-    if 255 < len {
+    if 255 < len.0 {
         return false;
     }
-    if most < children {
+    if most < children.0 {
         return false;
     }
     true
@@ -67,7 +68,7 @@ fn fits_brackets(p: RawSubtree, children: ChildrenBytes) -> bool
     if p.opening.index != p.closing.index {
         return false;
     }
-    if !is_few(p.len.0, children.0, 255) {
+    if !is_few(p.len, children, 255) {
         return false;
     }
     if p.opening.len != 1 {
@@ -85,7 +86,7 @@ fn fits_equal(p: RawSubtree, children: ChildrenBytes) -> bool
     if p.opening.index != p.closing.index {
         return false;
     }
-    if !is_few(p.len.0, children.0, 255) {
+    if !is_few(p.len, children, 255) {
         return false;
     }
     if p.opening.len != p.closing.len {
@@ -97,7 +98,7 @@ fn fits_equal(p: RawSubtree, children: ChildrenBytes) -> bool
 fn fits_two_parts(p: RawSubtree, children: ChildrenBytes) -> bool
     ensures { λ r. ⌜ r ≡ fits010 (spanOf (p .opening)) (spanOf (p .closing)) (p .len .0) (children .0) ⌝ }
 {
-    if !is_few(p.len.0, children.0, 4095) {
+    if !is_few(p.len, children, 4095) {
         return false;
     }
     if p.opening.len != p.closing.len {

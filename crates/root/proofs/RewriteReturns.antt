@@ -142,17 +142,6 @@ module _ (b : List ℕ) (k : ℕ) (parts symbols : List ℕ) (o c : types.Span) 
 
 pub ruleset set-cases = (set-refused, set-storable, set-six, set-done)
 
--- ---- range_fits
-
-module _ (s : types.Span) (n : s .start < 4294967296) where
-  pub range-out : 4294967295 - s .start < s .len → false ≡ rangeFits (wordsOf s)
-  range-out h = sym (lt-leb (s .start + s .len) 4294967295 (omega arith))
-
-  pub range-in : s .len ≤ 4294967295 - s .start → true ≡ rangeFits (wordsOf s)
-  range-in h = sym (le-leb (s .start + s .len) 4294967295 (omega arith))
-
-pub ruleset range-cases = (range-out, range-in)
-
 -- ---- stores
 
 pub kind-put : (b b′ : List ℕ) (d x : ℕ) → x ≡ byteAt b 12 → b′ ≡ put b 12 ((x % 8 + 8 * d) ∷ []) → b′ ≡ newKind b d

@@ -3,6 +3,7 @@ use checker::check::check_buffer;
 use checker::check::refused;
 use pack::span::PackedSpan;
 use pack::span::encode_span_no_map;
+use pack::span::range_fits;
 use pack::unchecked::byte_at;
 use pack::unchecked::put_byte;
 use tree::refusal::Verdict;
@@ -56,16 +57,6 @@ pub fn set_top_subtree_delimiter_kind(
 }
 
 // ---- the spans
-
-// Row 2 of a span.
-fn range_fits(span: Span) -> bool
-    ensures { λ r. ⌜ r ≡ rangeFits (wordsOf span) ⌝ }
-{
-    if 4294967295 - span.start < span.len {
-        return false;
-    }
-    true
-}
 
 // A span of the root is in the largest form, whatever it holds.
 fn put_span(b: &mut [u8], at: usize, index: u32, span: Span)
@@ -124,10 +115,10 @@ fn spans_verdict(
     match verdict {
         Verdict::Refused(_) => verdict,
         Verdict::Passed => {
-            if !range_fits(opening) {
+            if !range_fits(opening.start, opening.len) {
                 return refused(2, 0);
             }
-            if !range_fits(closing) {
+            if !range_fits(closing.start, closing.len) {
                 return refused(2, 0);
             }
             verdict

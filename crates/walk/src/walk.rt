@@ -2,7 +2,7 @@
 use crate::sizes::sized;
 use decode::decode::TreeAt;
 use decode::decode::TreeRead;
-use decode::decode::decode;
+use decode::decode::decode_sized;
 use tree::raw::Descendants;
 use tree::raw::place;
 use tree::refusal::Refusal;
@@ -127,7 +127,7 @@ fn begin(b: &[u8], trees: u32, parts: &[u32], symbols: &[u32], walk: Walk) -> Be
     if walk.left == 0 {
         return Begun::None;
     }
-    let read = decode(b, parts, symbols, walk.number, walk.place);
+    let read = decode_sized(b, parts, symbols, walk.number, walk.place);
     match read {
         TreeRead::Refused(number) => Begun::Refused(Refusal {
             number: number,

@@ -4,8 +4,8 @@ use Rattle.cursor.proofs.look.first.Statement.{statement}
 use Rattle.cursor.proofs.look.first.Tie as tie
 
 -- src/look.rt:136:9
-decode-requires : tie.Need-decode-requires
-decode-requires c κs = search (needs, peeks-cases)
+decode-sized-requires : tie.Need-decode-sized-requires
+decode-sized-requires c κs = search (needs, peeks-cases)
 
 -- src/look.rt:138:27
 enum-known-read : tie.Need-enum-known-read
@@ -55,7 +55,7 @@ pub first-spec : {M : Type 1} → statement M
 first-spec =
     tie.close
     (tie.spec
-    decode-requires
+    decode-sized-requires
     enum-known-read
     refused-requires
     no-leaves-requires

@@ -8,8 +8,8 @@ add-decode : tie.Need-add-decode
 add-decode c = search (needs, peeks-cases)
 
 -- src/look.rt:113:9
-decode-requires : tie.Need-decode-requires
-decode-requires c κs = search (needs, peeks-cases)
+decode-sized-requires : tie.Need-decode-sized-requires
+decode-sized-requires c κs = search (needs, peeks-cases)
 
 -- src/look.rt:115:27
 enum-known-read : tie.Need-enum-known-read
@@ -60,7 +60,7 @@ second-spec =
     tie.close
     (tie.spec
     add-decode
-    decode-requires
+    decode-sized-requires
     enum-known-read
     add-refused
     refused-requires

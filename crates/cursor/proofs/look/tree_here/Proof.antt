@@ -4,8 +4,8 @@ use Rattle.cursor.proofs.look.tree_here.Statement.{statement}
 use Rattle.cursor.proofs.look.tree_here.Tie as tie
 
 -- src/look.rt:44:9
-decode-requires : tie.Need-decode-requires
-decode-requires c κs = search (needs, tells-cases)
+decode-sized-requires : tie.Need-decode-sized-requires
+decode-sized-requires c κs = search (needs, tells-cases)
 
 -- src/look.rt:46:27
 enum-known-read : tie.Need-enum-known-read
@@ -30,4 +30,4 @@ returns-2 c = search (needs, tells-cases)
 pub tree-here-spec : {M : Type 1} → statement M
 tree-here-spec =
     tie.close
-    (tie.spec decode-requires enum-known-read refused-requires enum-known-read-2 returns returns-2)
+    (tie.spec decode-sized-requires enum-known-read refused-requires enum-known-read-2 returns returns-2)

@@ -24,8 +24,8 @@ element-copy-out-decode : tie.Need-element-copy-out-decode
 element-copy-out-decode c = search (needs, shut-cases)
 
 -- src/plan.rt:139:9
-decode-requires : tie.Need-decode-requires
-decode-requires c κs = search (needs, shut-cases)
+decode-sized-requires : tie.Need-decode-sized-requires
+decode-sized-requires c κs = search (needs, shut-cases)
 
 -- src/plan.rt:141:27
 enum-known-read : tie.Need-enum-known-read
@@ -68,7 +68,7 @@ shut-last-spec =
     element-copy-out-number
     mul-decode
     element-copy-out-decode
-    decode-requires
+    decode-sized-requires
     enum-known-read
     refuse-requires
     enum-known-read-2

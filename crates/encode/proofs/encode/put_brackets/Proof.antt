@@ -9,17 +9,17 @@ sub-distance c = search (needs, leaf-cases)
 put-span-requires : tie.Need-put-span-requires
 put-span-requires c κs = search (needs, leaf-cases)
 
-mul-put-three : tie.Need-mul-put-three
-mul-put-three c = search (needs, leaf-cases)
+mul-put-counts : tie.Need-mul-put-counts
+mul-put-counts c = search (needs, leaf-cases)
 
-mul-put-three-2 : tie.Need-mul-put-three-2
-mul-put-three-2 c = search (needs, leaf-cases)
+mul-put-counts-2 : tie.Need-mul-put-counts-2
+mul-put-counts-2 c = search (needs, leaf-cases)
 
-add-put-three : tie.Need-add-put-three
-add-put-three c = search (needs, leaf-cases)
+add-put-counts : tie.Need-add-put-counts
+add-put-counts c = search (needs, leaf-cases)
 
-put-three-requires : tie.Need-put-three-requires
-put-three-requires c κs = search (needs, leaf-cases)
+put-counts-requires : tie.Need-put-counts-requires
+put-counts-requires c κs = search (needs, leaf-cases)
 
 same-length : tie.Need-same-length
 same-length c = search (needs, leaf-cases)
@@ -33,9 +33,9 @@ put-brackets-spec =
     (tie.spec
     sub-distance
     put-span-requires
-    mul-put-three
-    mul-put-three-2
-    add-put-three
-    put-three-requires
+    mul-put-counts
+    mul-put-counts-2
+    add-put-counts
+    put-counts-requires
     same-length
     returns)

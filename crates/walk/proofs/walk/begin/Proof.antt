@@ -4,7 +4,7 @@ use Rattle.walk.proofs.walk.begin.Statement.{statement}
 use Rattle.walk.proofs.walk.begin.Tie as tie
 use Rattle.walk.proofs.walk.begin.Reads as reads
 use Rattle.walk.proofs.walk.begin.Lts as lts
-use Rattle.decode.proofs.decode.decode.Reads as decode-reads
+use Rattle.decode.proofs.decode.decode_sized.Reads as decode-sized-reads
 use Rattle.walk.proofs.walk.walk_row.Reads as walk-row-reads
 
 -- src/walk.rt:120:9
@@ -20,8 +20,8 @@ returns-2 : tie.Need-returns-2
 returns-2 c = search (needs, walk-cases)
 
 -- src/walk.rt:130:9
-decode-requires : tie.Need-decode-requires
-decode-requires c κs = search (needs, walk-cases)
+decode-sized-requires : tie.Need-decode-sized-requires
+decode-sized-requires c κs = search (needs, walk-cases)
 
 -- src/walk.rt:132:27
 enum-known-read : tie.Need-enum-known-read
@@ -46,7 +46,7 @@ begin-spec =
     walk-row-requires
     returns
     returns-2
-    decode-requires
+    decode-sized-requires
     enum-known-read
     enum-known-read-2
     returns-3
