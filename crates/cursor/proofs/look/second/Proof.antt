@@ -4,8 +4,8 @@ use Rattle.cursor.proofs.look.second.Statement.{statement}
 use Rattle.cursor.proofs.look.second.Tie as tie
 
 -- src/look.rt:113:42
-add-decode : tie.Need-add-decode
-add-decode c = search (needs, peeks-cases)
+add-decode-sized : tie.Need-add-decode-sized
+add-decode-sized c = search (needs, peeks-cases)
 
 -- src/look.rt:113:9
 decode-sized-requires : tie.Need-decode-sized-requires
@@ -59,7 +59,7 @@ pub second-spec : {M : Type 1} → statement M
 second-spec =
     tie.close
     (tie.spec
-    add-decode
+    add-decode-sized
     decode-sized-requires
     enum-known-read
     add-refused

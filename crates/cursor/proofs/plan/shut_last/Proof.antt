@@ -16,12 +16,12 @@ element-copy-out-number : tie.Need-element-copy-out-number
 element-copy-out-number c = search (needs, shut-cases)
 
 -- src/plan.rt:139:50
-mul-decode : tie.Need-mul-decode
-mul-decode c = search (needs, shut-cases)
+mul-decode-sized : tie.Need-mul-decode-sized
+mul-decode-sized c = search (needs, shut-cases)
 
 -- src/plan.rt:139:50
-element-copy-out-decode : tie.Need-element-copy-out-decode
-element-copy-out-decode c = search (needs, shut-cases)
+element-copy-out-decode-sized : tie.Need-element-copy-out-decode-sized
+element-copy-out-decode-sized c = search (needs, shut-cases)
 
 -- src/plan.rt:139:9
 decode-sized-requires : tie.Need-decode-sized-requires
@@ -66,8 +66,8 @@ shut-last-spec =
     sub-last
     mul-number
     element-copy-out-number
-    mul-decode
-    element-copy-out-decode
+    mul-decode-sized
+    element-copy-out-decode-sized
     decode-sized-requires
     enum-known-read
     refuse-requires
