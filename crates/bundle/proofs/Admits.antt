@@ -10,6 +10,9 @@ use Rattle.format.specs.Reader.{Shape}
 use Rattle.format.specs.Check.{Admitted}
 use Rattle.format.specs.Buffer.{wordShape, ownReader}
 use Rattle.format.specs.Bundle.{Bundle, BundleRead, bundle, badBundle, bundleAt, checkOf, bundleCheck, numberOf}
+use Rattle.bundle.specs.Answer.{readAnswer, readVerdict}
+use Rattle.bundle.specs.declared.read.BundleRead.{BundleRead as Read}
+use Rattle.bundle.specs.declared.read.BundleRead.the-variants.{Bad}
 use Rattle.format.proofs.CheckRefusal as rows
 use Rattle.format.proofs.NestLaw.{Why, passes-other, passes-list, deep}
 use Rattle.format.proofs.TreeRefusal.{own-numbers, own-refusal}
@@ -45,6 +48,11 @@ zero-passed (bundle B) e = go (checkOf (bundle B)) refl
         let z : r ≡ 0 = sym (ap numberOf f) ∙ e in
         absurd (omega arith)
 
+bad-read : (b : List ℕ) (q : BundleRead) → readAnswer b q ≡ Bad → q ≡ badBundle
+unfolding readAnswer
+bad-read b badBundle e = refl
+bad-read b (bundle B) e = let z : _≡_ {A = ℕ} 0 1 = cc in absurd (omega arith)
+
 -- ---- r is the host's number
 
 module _ (b : List ℕ) (r : ℕ) (says : r ≡ numberOf (bundleCheck b)) where
@@ -57,6 +65,11 @@ module _ (b : List ℕ) (r : ℕ) (says : r ≡ numberOf (bundleCheck b)) where
 
     pub admitted-zero : Admitted wordShape (ownReader (B .bytes) (B .trees) (B .parts) (B .symbols)) → r ≡ 0
     admitted-zero a = says ∙ ap numberOf (ap checkOf q ∙ own-complete (B .bytes) (B .trees) (B .parts) (B .symbols) a)
+
+  -- what `read_bundle` answers of a bad bundle is what the check says
+  pub bad-refused : (a : Read) → a ≡ readAnswer b (bundleAt b) → a ≡ Bad → bundleCheck b ≡ readVerdict a
+  unfolding readVerdict
+  bad-refused a e f = ap checkOf (bad-read b (bundleAt b) (sym e ∙ f)) ∙ sym (ap readVerdict f)
 
   pub bad-one : bundleAt b ≡ badBundle → r ≡ 1
   bad-one q = says ∙ ap (λ (x : BundleRead). numberOf (checkOf x)) q

@@ -3,26 +3,16 @@ use Prim.Native.Nat.{ℕ, _<_}
 use mathlib.Core.Bool.{Bool, true, false}
 use mathlib.Core.Path.{_≡_, refl, sym, ap, _∙_, subst}
 use mathlib.Core.List.{List, [], _∷_}
-use borrow.Author.Tests.{eq-eqb, ne-eqb}
-use lib.Dec.{eqb}
-use lib.ListN.{getD}
-use Rattle.format.specs.Test.{if_then_else_}
 use Rattle.format.specs.Verdict as format
 use Rattle.format.specs.Builder.{Step, builderStep, newVerdict, new, pointVerdict, restorePoint}
 use Rattle.format.specs.Builder as steps
-use Rattle.tree.specs.Types.{spacingOf, isRawOf, litKindOf}
 use Rattle.tree.specs.Refusal.{verdictAnswer}
 use Rattle.tree.specs.declared.refusal.Refusal.{Refusal}
 use Rattle.tree.specs.declared.refusal.Verdict.{Verdict}
 use Rattle.tree.specs.declared.refusal.Report.{Report}
 use Rattle.tree.specs.declared.types.Span.{Span}
-use Rattle.tree.specs.declared.types.Leaf.{Leaf}
-use Rattle.tree.specs.declared.types.Leaf.the-variants as leaves
-use Rattle.tree.specs.declared.types.Spacing.{Spacing}
-use Rattle.tree.specs.declared.types.IdentIsRaw.{IdentIsRaw}
-use Rattle.tree.specs.declared.types.LitKind.{LitKind}
 use Rattle.builder.specs.State.{seen}
-use Rattle.builder.specs.Given.{wordsOf, pushed}
+use Rattle.builder.specs.Given.{wordsOf}
 use Rattle.builder.specs.Restoring.{pointAnswer}
 use Rattle.builder.specs.Taken.{Begun, Taken}
 use Rattle.builder.specs.Building.{Built, BuiltSkipping}
@@ -33,30 +23,11 @@ use Rattle.builder.specs.declared.restore.PointTaken.{PointTaken}
 use Rattle.builder.specs.declared.restore.PointTaken.the-variants as taken
 use Rattle.export.specs.Replies.{refusedCode, verdictCode, reportCode}
 use Rattle.export.specs.Roots.{spanFrom}
-use Rattle.export.specs.Builders.{lent, stateList, leafFrom, StepStored, Handed, NewReplied, StepReplied, PointReplied, BuildReplied}
+use Rattle.export.specs.Builders.{lent, stateList, StepStored, Handed, NewReplied, StepReplied, PointReplied, BuildReplied}
 
 pub step-stored : (s : Stepped) (r n : ℕ) → (n ≡ s .builder .count) × (n < 4294967296) → r ≡ verdictCode (s .verdict)
     → StepStored s r (n ∷ s .builder .depth ∷ []) (s .builder .opened)
 step-stored s r n e q = record { reply = q; state = ap (λ (x : ℕ). x ∷ s .builder .depth ∷ []) (e .0); numbers = refl }
-
--- ---- a leaf
-
-module _ (w : List ℕ) (s : Span) (e : s ≡ spanFrom w 5) where
-  pub leaf-punct : (x : Spacing) → getD w 0 0 ≡ 0 → x ≡ spacingOf (getD w 2 0)
-      → leaves.Punct (record { char = getD w 1 0; spacing = x; span = s }) ≡ leafFrom w
-  unfolding leafFrom
-  leaf-punct x h f = simp (eq-eqb _ _ h) (rw (e, f))
-
-  module _ (z : getD w 0 0 ≡ 0 → ⊥) where
-    pub leaf-ident : (x : IdentIsRaw) → getD w 0 0 ≡ 1 → x ≡ isRawOf (getD w 2 0)
-        → leaves.Ident (record { sym = getD w 1 0; span = s; «is_raw» = x }) ≡ leafFrom w
-    unfolding leafFrom
-    leaf-ident x h f = simp (ne-eqb _ _ z, eq-eqb _ _ h) (rw (e, f))
-
-    pub leaf-literal : (x : LitKind) → (getD w 0 0 ≡ 1 → ⊥) → x ≡ litKindOf (getD w 2 0) (getD w 3 0)
-        → leaves.Literal (record { «text_and_suffix» = getD w 1 0; span = s; kind = x; «suffix_len» = getD w 4 0 }) ≡ leafFrom w
-    unfolding leafFrom
-    leaf-literal x h f = simp (ne-eqb _ _ z, ne-eqb _ _ h) (rw (e, f))
 
 -- ---- the steps
 
@@ -82,10 +53,8 @@ module _ (s : Stepped) (r : ℕ) (next′ opened′ : List ℕ) (p : StepStored 
       (subst (λ (x : Span). NewReplied kind x c l r next′ opened′ l′) e (begun kind o c l l′ h))
 
   module _ (n d : ℕ) (a l : List ℕ) where
-    pub push-replied : (w : List ℕ) (t : Leaf) (l′ : List ℕ) → t ≡ leafFrom w → Taken (steps.push (pushed t)) (lent n d a) l s l′
-        → StepReplied (steps.push (pushed (leafFrom w))) (lent n d a) l r next′ opened′ l′
-    push-replied w t l′ e h =
-        subst (λ (x : Leaf). StepReplied (steps.push (pushed x)) (lent n d a) l r next′ opened′ l′) e (stepped _ _ l l′ h)
+    pub push-replied : (w l′ : List ℕ) → Taken (steps.push w) (lent n d a) l s l′ → StepReplied (steps.push w) (lent n d a) l r next′ opened′ l′
+    push-replied w l′ h = stepped _ _ l l′ h
 
     pub open-replied : (k : ℕ) (w : List ℕ) (o : Span) (l′ : List ℕ) → o ≡ spanFrom w 0 → Taken (steps.openSubtree k (wordsOf o)) (lent n d a) l s l′
         → StepReplied (steps.openSubtree k (wordsOf (spanFrom w 0))) (lent n d a) l r next′ opened′ l′
@@ -121,4 +90,4 @@ module _ (n d : ℕ) (a l parts symbols work out : List ℕ) (skips : Bool) (q :
       → BuildReplied (lent n d a) skips l parts symbols work out r work′ out′
   build-whole e h = record { reply = c ∙ rw e (ap reportCode (h .answer)); words = rw e (h .works); bytes = rw e (h .outs) }
 
-pub ruleset builder-cases = (step-stored, leaf-punct, leaf-ident, leaf-literal, new-replied, push-replied, open-replied, close-replied, restore-replied, point-refused, point-taken, build-skips, build-whole)
+pub ruleset builder-cases = (step-stored, new-replied, push-replied, open-replied, close-replied, restore-replied, point-refused, point-taken, build-skips, build-whole)

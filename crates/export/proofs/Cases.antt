@@ -1,6 +1,6 @@
 -- One law for each return.
 use Prim.Native.Nat.{ℕ, _+_, _<_, _≤_}
-use mathlib.Core.Path.{_≡_, sym, ap, _∙_}
+use mathlib.Core.Path.{_≡_, refl, sym, ap, _∙_}
 use mathlib.Core.Bool.{Bool}
 use mathlib.Core.List.{List, [], _∷_}
 use borrow.Author.Tests.{lt-ltb, le-ltb}
@@ -18,16 +18,19 @@ use Rattle.pack.specs.declared.span.SpanRead.the-variants as spans
 use Rattle.pack.specs.declared.symbol.SymbolAt.{SymbolAt}
 use Rattle.pack.specs.declared.symbol.SymbolRead.{SymbolRead}
 use Rattle.pack.specs.declared.symbol.SymbolRead.the-variants as symbols
-use mathlib.Core.Bool.{true, false, not}
-use borrow.Author.Tests.{not-true, not-false}
+use mathlib.Core.Bool.{true, false}
+use native.Mathlib.Omega.{arith}
 use Rattle.format.specs.Tree.{Raw, subtree}
 use Rattle.format.specs.WordList.{wordOf, rawFrom, wordFields}
 use Rattle.tree.specs.Raw.{rawTree, rawOf}
+use Rattle.tree.specs.Words.{rawWordsAnswer}
 use Rattle.tree.specs.declared.raw.RawTree.{RawTree}
+use Rattle.tree.specs.declared.words.RawWords.{RawWords}
+use Rattle.tree.specs.declared.words.RawWords.the-variants as raws
 use Rattle.tree.proofs.RawAgain.{raw-again}
 use mathlib.Core.List.{_++_}
 use Rattle.tree.specs.Types.{treeWordsOf}
-use Rattle.decode.specs.Decode.{treeAnswer, decodedAt}
+use Rattle.decode.specs.Decode.{treeAnswer, decoded}
 use Rattle.decode.specs.declared.decode.TreeAt.{TreeAt}
 use Rattle.decode.specs.declared.decode.TreeRead.{TreeRead}
 use Rattle.decode.specs.declared.decode.TreeRead.the-variants as trees
@@ -69,14 +72,44 @@ module _ (b : List ℕ) (at : ℕ) (w : List ℕ) where
 
 -- ---- trees
 
-module _ (b : List ℕ) (at : ℕ) (w : List ℕ) (o c y kids : ℕ) (f : Bool) (e : f ≡ wordFields (wordOf w 0)) where
-  pub tree-refused : not f ≡ true → TreeStored b at w o c y kids 9223372036854775810 b
-  tree-refused h = let t : wordFields (wordOf w 0) ≡ false = sym e ∙ not-true f h in record { reply = simp t; contents = simp t }
+got-bad : {A : Type 0} (t : RawTree) (k : ℕ) → raws.Got t ≡ raws.Bad k → A
+got-bad t k e = let z : _≡_ {A = ℕ} 0 1 = cc in absurd (omega arith)
 
-  pub tree-stored : not f ≡ false → (q : RawTree) (p : Packed) (r : ℕ) (b′ : List ℕ) → q ≡ rawTree (rawFrom o c y (wordOf w 0)) → TreePacked b at 1 (rawOf q) kids p b′ → r ≡ codeOf p → TreeStored b at w o c y kids r b′
-  tree-stored h q p r b′ g k d =
-      let t : wordFields (wordOf w 0) ≡ true = sym e ∙ not-false f h in
-      let z : rawOf q ≡ rawFrom o c y (wordOf w 0) = ap rawOf g ∙ raw-again (rawFrom o c y (wordOf w 0)) in
+got-same : (t u : RawTree) → raws.Got t ≡ raws.Got u → t ≡ u
+got-same t u e = cc
+
+bad-same : (j k : ℕ) → raws.Bad j ≡ raws.Bad k → j ≡ k
+bad-same j k e = cc
+
+-- what an answer says of the words
+raw-read : (o c y : ℕ) (w : ℕ → ℕ) (t : RawTree) → rawWordsAnswer o c y w ≡ raws.Got t → (wordFields w ≡ true) × (t ≡ rawTree (rawFrom o c y w))
+unfolding rawWordsAnswer
+raw-read o c y w t e = go (wordFields w) refl
+  where
+    go : (x : Bool) → wordFields w ≡ x → (wordFields w ≡ true) × (t ≡ rawTree (rawFrom o c y w))
+    go true f = let d : raws.Got (rawTree (rawFrom o c y w)) ≡ raws.Got t = simp f at e in (f, sym (got-same (rawTree (rawFrom o c y w)) t d))
+    go false f = let d : raws.Bad 2 ≡ raws.Got t = simp f at e in got-bad t 2 (sym d)
+
+raw-none : (o c y : ℕ) (w : ℕ → ℕ) (k : ℕ) → rawWordsAnswer o c y w ≡ raws.Bad k → (wordFields w ≡ false) × (k ≡ 2)
+unfolding rawWordsAnswer
+raw-none o c y w k e = go (wordFields w) refl
+  where
+    go : (x : Bool) → wordFields w ≡ x → (wordFields w ≡ false) × (k ≡ 2)
+    go true f = let d : raws.Got (rawTree (rawFrom o c y w)) ≡ raws.Bad k = simp f at e in got-bad (rawTree (rawFrom o c y w)) k d
+    go false f = let d : raws.Bad 2 ≡ raws.Bad k = simp f at e in (f, sym (bad-same 2 k d))
+
+module _ (b : List ℕ) (at : ℕ) (w : List ℕ) (o c y kids : ℕ) (a : RawWords) (e : a ≡ rawWordsAnswer o c y (wordOf w 0)) where
+  pub tree-refused : (k r : ℕ) → a ≡ raws.Bad k → r ≡ refusalCode k → TreeStored b at w o c y kids r b
+  tree-refused k r h q =
+      let n = raw-none o c y (wordOf w 0) k (sym e ∙ h) in
+      let t : wordFields (wordOf w 0) ≡ false = n .0 in
+      record { reply = simp t (q ∙ ap refusalCode (n .1)); contents = simp t }
+
+  pub tree-stored : (q : RawTree) → a ≡ raws.Got q → (p : Packed) (r : ℕ) (b′ : List ℕ) → TreePacked b at 1 (rawOf q) kids p b′ → r ≡ codeOf p → TreeStored b at w o c y kids r b′
+  tree-stored q h p r b′ k d =
+      let n = raw-read o c y (wordOf w 0) q (sym e ∙ h) in
+      let t : wordFields (wordOf w 0) ≡ true = n .0 in
+      let z : rawOf q ≡ rawFrom o c y (wordOf w 0) = ap rawOf (n .1) ∙ raw-again (rawFrom o c y (wordOf w 0)) in
       let m : TreePacked b at 1 (rawFrom o c y (wordOf w 0)) kids p b′ = rw (← z) k in
       record { reply = simp t (d ∙ ap codeOf (m .answer)); contents = simp t (m .contents) }
 
@@ -89,7 +122,7 @@ module _ (b parts symbols : List ℕ) (n at : ℕ) (w : List ℕ) where
   pub tree-few : length w < 14 → TreeFound b parts symbols n at w 9223372036854775814 w
   tree-few h = let t = lt-ltb (length w) 14 h in record { reply = simp t; contents = simp t }
 
-  module _ (h : 14 ≤ length w) (a : TreeRead) (e : a ≡ treeAnswer (decodedAt b parts symbols n at)) where
+  module _ (h : 14 ≤ length w) (a : TreeRead) (e : a ≡ treeAnswer (decoded b parts symbols n at)) where
     pub tree-none : (k r : ℕ) → a ≡ trees.Refused k → r ≡ refusalCode k → TreeFound b parts symbols n at w r w
     tree-none k r d q = let t = le-ltb (length w) 14 h in let f = sym e ∙ d in record { reply = simp (t, f) q; contents = simp (t, f) }
 

@@ -3,17 +3,11 @@ use Prim.Native.Nat.{ℕ}
 use mathlib.Core.Bool.{Bool, true, false}
 use mathlib.Core.Path.{_≡_}
 use mathlib.Core.List.{List, [], _∷_}
-use lib.Dec.{eqb}
-use lib.ListN.{getD}
-use Rattle.format.specs.Test.{if_then_else_}
 use Rattle.format.specs.Verdict.{Verdict, contents}
 use Rattle.format.specs.Builder.{Step, builderStep, newVerdict, new, pointVerdict, restorePoint, build, buildSkipTopSubtree}
 use Rattle.format.specs.Builder as format
-use Rattle.tree.specs.Types.{spacingOf, isRawOf, litKindOf}
 use Rattle.tree.specs.Refusal.{verdictAnswer, reportAnswer}
 use Rattle.tree.specs.declared.types.Span.{Span}
-use Rattle.tree.specs.declared.types.Leaf.{Leaf}
-use Rattle.tree.specs.declared.types.Leaf.the-variants as leaves
 use Rattle.builder.specs.State.{seen}
 use Rattle.builder.specs.Given.{wordsOf}
 use Rattle.builder.specs.Restoring.{pointAnswer}
@@ -23,20 +17,12 @@ use Rattle.builder.specs.declared.state.Stepped.{Stepped}
 use Rattle.builder.specs.declared.restore.PointTaken.{PointTaken}
 use Rattle.builder.specs.declared.restore.PointTaken.the-variants as taken
 use Rattle.export.specs.Replies.{refusedCode, verdictCode, reportCode}
-use Rattle.export.specs.Roots.{spanFrom}
 
 abbrev pub lent : ℕ → ℕ → List ℕ → Builder
 lent n d a = record { count = n; depth = d; opened = a }
 
 abbrev pub stateList : Builder → List ℕ
 stateList b = b .count ∷ b .depth ∷ []
-
--- sort, four numbers, span
-unfoldable pub leafFrom : List ℕ → Leaf
-leafFrom w =
-    if eqb (getD w 0 0) 0 then leaves.Punct (record { char = getD w 1 0; spacing = spacingOf (getD w 2 0); span = spanFrom w 5 }) else
-    (if eqb (getD w 0 0) 1 then leaves.Ident (record { sym = getD w 1 0; span = spanFrom w 5; «is_raw» = isRawOf (getD w 2 0) }) else
-    leaves.Literal (record { «text_and_suffix» = getD w 1 0; span = spanFrom w 5; kind = litKindOf (getD w 2 0) (getD w 3 0); «suffix_len» = getD w 4 0 }))
 
 pub record StepStored (s : Stepped) (r : ℕ) (next′ opened′ : List ℕ) : Type 0 where
   pub reply : r ≡ verdictCode (s .verdict)

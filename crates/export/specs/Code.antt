@@ -14,7 +14,7 @@ use Rattle.format.specs.Verdict as verdict
 use Rattle.format.specs.Tree.{Raw, subtree}
 use Rattle.format.specs.WordList.{wordOf, rawFrom, wordFields}
 use Rattle.format.specs.Write.{treeBytes}
-use Rattle.pack.specs.Answer.{packedAnswer, spanAnswer, symbolAnswer}
+use Rattle.pack.specs.Answer.{packedAnswer, spanAnswer, symbolAnswer, spanNumber, symbolNumber}
 use Rattle.pack.specs.declared.Packed.{Packed}
 use Rattle.pack.specs.declared.Packed.the-variants.{Written, Refused}
 use Rattle.pack.specs.declared.span.SpanAt.{SpanAt}
@@ -24,7 +24,7 @@ use Rattle.pack.specs.declared.symbol.SymbolAt.{SymbolAt}
 use Rattle.pack.specs.declared.symbol.SymbolRead.{SymbolRead}
 use Rattle.pack.specs.declared.symbol.SymbolRead.the-variants as symbols
 use Rattle.tree.specs.Types.{treeWordsOf}
-use Rattle.decode.specs.Decode.{treeAnswer, decodedAt}
+use Rattle.decode.specs.Decode.{treeAnswer, decoded}
 use Rattle.decode.specs.declared.decode.TreeRead.{TreeRead}
 use Rattle.decode.specs.declared.decode.TreeRead.the-variants as trees
 use Rattle.encode.specs.Encode.{packTree}
@@ -54,7 +54,7 @@ symbolWords y = y .index ∷ y .tag ∷ []
 
 abbrev pub spanCode : SpanRead → ℕ
 spanCode (spans.Read y) = y .next
-spanCode spans.Short = refusalCode 7
+spanCode spans.Short = refusalCode (spanNumber spans.Short)
 
 abbrev pub spanLeft : List ℕ → SpanRead → List ℕ
 spanLeft w (spans.Read y) = put w 0 (spanWords y)
@@ -62,7 +62,7 @@ spanLeft w spans.Short = w
 
 abbrev pub symbolCode : SymbolRead → ℕ
 symbolCode (symbols.Read y) = y .next
-symbolCode symbols.Short = refusalCode 7
+symbolCode symbols.Short = refusalCode (symbolNumber symbols.Short)
 
 abbrev pub symbolLeft : List ℕ → SymbolRead → List ℕ
 symbolLeft w (symbols.Read y) = put w 0 (symbolWords y)
@@ -86,7 +86,7 @@ treeReply b at m t kids = codeOf (packedAnswer (report (packTree b at m t kids) 
 abbrev pub treeLeft : List ℕ → ℕ → ℕ → Raw → ℕ → List ℕ
 treeLeft b at m t kids = verdict.contents (packTree b at m t kids) b (put b at (treeBytes m t kids))
 
--- the tree of the first 13 list words: 2 if a word is out of range, then as the tree is packed
+-- the tree of 13 list words: 2 if a word is out of range, then as the tree is packed
 pub record TreeStored (b : List ℕ) (at : ℕ) (w : List ℕ) (o c y kids : ℕ) (r : ℕ) (b′ : List ℕ) : Type 0 where
   pub reply : r ≡ (if wordFields (wordOf w 0) then treeReply b at 1 (rawFrom o c y (wordOf w 0)) kids else refusalCode 2)
   pub contents : b′ ≡ (if wordFields (wordOf w 0) then treeLeft b at 1 (rawFrom o c y (wordOf w 0)) kids else b)
@@ -105,5 +105,5 @@ foundWords w (trees.Got y) = put w 0 (treeWordsOf (y .tree) ++ y .children .0 �
 foundWords w (trees.Refused k) = w
 
 pub record TreeFound (b parts symbols : List ℕ) (n at : ℕ) (w : List ℕ) (r : ℕ) (w′ : List ℕ) : Type 0 where
-  pub reply : r ≡ (if ltb (length w) 14 then refusalCode 6 else treeCode (treeAnswer (decodedAt b parts symbols n at)))
-  pub contents : w′ ≡ (if ltb (length w) 14 then w else foundWords w (treeAnswer (decodedAt b parts symbols n at)))
+  pub reply : r ≡ (if ltb (length w) 14 then refusalCode 6 else treeCode (treeAnswer (decoded b parts symbols n at)))
+  pub contents : w′ ≡ (if ltb (length w) 14 then w else foundWords w (treeAnswer (decoded b parts symbols n at)))

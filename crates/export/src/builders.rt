@@ -8,19 +8,12 @@ use builder::restore::PointTaken;
 use builder::state::Builder;
 use builder::state::Point;
 use builder::state::Stepped;
-use tree::kinds::is_raw_from;
-use tree::kinds::lit_kind_from;
-use tree::kinds::spacing_from;
 use tree::raw::place as wide;
-use tree::types::Ident;
-use tree::types::Leaf;
-use tree::types::Literal;
-use tree::types::Punct;
 ghost use mathlib.Core.Path.{_≡_};
 ghost use Rattle.format.specs.Builder.{push, openSubtree, closeSubtree, restore};
-ghost use Rattle.builder.specs.Given.{wordsOf, pushed};
+ghost use Rattle.builder.specs.Given.{wordsOf};
 ghost use Rattle.export.specs.Roots.{spanFrom};
-ghost use Rattle.export.specs.Builders.{lent, leafFrom, StepStored, StepReplied, NewReplied};
+ghost use Rattle.export.specs.Builders.{lent, StepStored, StepReplied, NewReplied};
 ghost use Rattle.export.specs.Builders.{PointReplied, BuildReplied};
 
 fn store_step(stepped: Stepped, next: &mut [usize; 2], opened: &mut [u32; 256]) -> u64
@@ -54,49 +47,17 @@ pub extern "C" fn tt_builder_new(
     store_step(stepped, next, opened)
 }
 
-// Sort, four numbers, five words of the span. The numbers: character, spacing; symbol, raw;
-// symbol, kind, raw count, suffix length. Other sorts than 0 and 1 are literals.
-fn leaf_of(w: &[u32; 10]) -> Leaf
-    ensures { λ r. ⌜ r ≡ leafFrom (now (w .entry)) ⌝ }
-{
-    let span = span_of(w[5], w[6], w[7], w[8], w[9]);
-    let sort = w[0];
-    let first = w[1];
-    let second = w[2];
-    if sort == 0 {
-        return Leaf::Punct(Punct {
-            char: first,
-            spacing: spacing_from(second),
-            span: span,
-        });
-    }
-    if sort == 1 {
-        return Leaf::Ident(Ident {
-            sym: first,
-            span: span,
-            is_raw: is_raw_from(second),
-        });
-    }
-    let raw_count = w[3];
-    let suffix_len = w[4];
-    Leaf::Literal(Literal {
-        text_and_suffix: first,
-        span: span,
-        kind: lit_kind_from(second, raw_count),
-        suffix_len: suffix_len,
-    })
-}
-
+// A leaf by its 13 list words.
 #[no_mangle]
 pub extern "C" fn tt_builder_push(
     list: &mut [u32],
     count: u32,
     depth: usize,
-    leaf: &[u32; 10],
+    leaf: &[u32; 13],
     next: &mut [usize; 2],
     opened: &mut [u32; 256],
 ) -> u64
-    ensures { λ r. ⌜ StepReplied (push (pushed (leafFrom (now (leaf .entry)))))
+    ensures { λ r. ⌜ StepReplied (push (now (leaf .entry)))
         (lent count depth (now (opened .entry))) (now (list .entry))
         r (now (next .exit)) (now (opened .exit)) (now (list .exit)) ⌝ }
 {
@@ -106,8 +67,7 @@ pub extern "C" fn tt_builder_push(
         depth: depth,
         opened: numbers,
     };
-    let tree = leaf_of(leaf);
-    let stepped = builder.push(list, tree);
+    let stepped = builder.push_words(list, leaf);
     store_step(stepped, next, opened)
 }
 

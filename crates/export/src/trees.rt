@@ -9,9 +9,9 @@ use pack::span::PackedSpan;
 use tree::raw::ChildrenBytes;
 use tree::raw::Descendants;
 use tree::raw::RawSubtree;
+use tree::words::RawWords;
 use tree::words::raw_from_words;
 use tree::words::tree_words;
-use tree::words::word_fields;
 ghost use mathlib.Core.Path.{_≡_};
 ghost use mathlib.Core.List.{_∷_, [], _++_};
 ghost use Prim.Native.Nat.{_≤_};
@@ -19,12 +19,18 @@ ghost use lib.ListN.{length};
 ghost use Rattle.format.specs.Word.{put};
 ghost use Rattle.export.specs.Code.{refusalCode, TreeStored, RootStored, TreeFound};
 
-// The tree of the first 13 list words, with the indices of its open and close part and of its symbol.
+fn refusal_code(k: u32) -> u64
+    ensures { λ r. ⌜ r ≡ refusalCode k ⌝ }
+{
+    9223372036854775808 + (k as u64)
+}
+
+// The tree of 13 list words, with the indices of its open and close part and of its symbol.
 #[no_mangle]
 pub extern "C" fn tt_encode_tree(
     out: &mut [u8],
     at: usize,
-    tree: &[u32],
+    tree: &[u32; 13],
     open_index: u32,
     close_index: u32,
     symbol_index: u32,
@@ -33,12 +39,13 @@ pub extern "C" fn tt_encode_tree(
     ensures { λ r. ⌜ TreeStored (now (out .entry)) at (now (tree .entry)) «open_index» «close_index» «symbol_index»
         children r (now (out .exit)) ⌝ }
 {
-    if !word_fields(tree, 0) {
-        return 9223372036854775810;
+    match raw_from_words(tree, open_index, close_index, symbol_index) {
+        RawWords::Bad(number) => refusal_code(number),
+        RawWords::Got(raw) => {
+            let p = encode(out, at, raw, ChildrenBytes(children));
+            code_of(p)
+        }
     }
-    let raw = raw_from_words(tree, 0, open_index, close_index, symbol_index);
-    let p = encode(out, at, raw, ChildrenBytes(children));
-    code_of(p)
 }
 
 // The root: its spans by index, start and length, its delimiter kind, its descendants and their bytes.
@@ -87,12 +94,6 @@ fn store_tree(words: &mut [u32], from: [u32; 13], children: u32)
 {
     store_words(words, 0, from);
     words[13] = children;
-}
-
-fn refusal_code(k: u32) -> u64
-    ensures { λ r. ⌜ r ≡ refusalCode k ⌝ }
-{
-    9223372036854775808 + (k as u64)
 }
 
 // The 13 list words of tree n and its children bytes go to 14 words; the answer is the place behind the tree.

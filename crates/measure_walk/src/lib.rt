@@ -2,6 +2,7 @@
 // be compiled into this loop.
 use measure::walks::walk_sum;
 use walk::walk::Walk;
+use walk::walk::fresh;
 ghost use mathlib.Core.Path.{_≡_};
 ghost use Rattle.format.specs.Buffer.{ownReader};
 ghost use Rattle.format.specs.Walk.{advance, skip};
@@ -13,12 +14,7 @@ pub extern "C" fn tt_walk_all(b: &[u8], trees: u32, parts: &[u32], symbols: &[u3
     ensures { λ r. ⌜ r ≡ walkSum (ownReader (now (b .entry)) trees (now (parts .entry)) (now (symbols .entry)))
         advance trees (record { place = 0; number = 0; left = trees }) 0 ⌝ }
 {
-    let walk = Walk {
-        place: 0,
-        number: 0,
-        left: trees,
-    };
-    walk_sum(b, trees, parts, symbols, walk, false)
+    walk_sum(b, trees, parts, symbols, fresh(trees), false)
 }
 
 // The same of a walk from a place on, past each subtree.

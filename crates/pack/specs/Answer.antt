@@ -25,6 +25,11 @@ unfoldable pub spanAnswer : format.SpanRead → SpanRead
 spanAnswer (format.span x s n) = spans.Read (record { span = packedOf s; extra = x; next = n })
 spanAnswer format.SpanRead.short = spans.Short
 
+-- row 7 of each case: "A span that cannot be read ends its tree there, with 7"
+abbrev pub spanNumber : SpanRead → ℕ
+spanNumber (spans.Read y) = 0
+spanNumber spans.Short = 7
+
 -- a span whose extra bits are those of its first word
 abbrev pub spanHere : ℕ → Span → ℕ → SpanAt
 spanHere w s n = record { span = packedOf s; extra = w % 4; next = n }
@@ -32,6 +37,10 @@ spanHere w s n = record { span = packedOf s; extra = w % 4; next = n }
 unfoldable pub symbolAnswer : format.SymbolRead → SymbolRead
 symbolAnswer (format.symbol t i n) = symbols.Read (record { index = i; tag = t; next = n })
 symbolAnswer format.SymbolRead.short = symbols.Short
+
+abbrev pub symbolNumber : SymbolRead → ℕ
+symbolNumber (symbols.Read y) = 0
+symbolNumber symbols.Short = 7
 
 -- a span and a symbol have no tree number
 unfoldable pub packedAnswer : Report → Packed

@@ -4,17 +4,12 @@ use Rattle.export.proofs.builders.tt_builder_push.Statement.{statement}
 use Rattle.export.proofs.builders.tt_builder_push.Tie as tie
 use Rattle.export.proofs.builders.tt_builder_push.Reads as reads
 use Rattle.export.proofs.builders.tt_builder_push.Lts as lts
-use Rattle.builder.proofs.state.Builder.push.Reads as push-reads
-use Rattle.export.proofs.builders.leaf_of.Reads as leaf-of-reads
+use Rattle.builder.proofs.state.Builder.push_words.Reads as push-words-reads
 use Rattle.export.proofs.builders.store_step.Reads as store-step-reads
 
--- src/builders.rt:107:9
-leaf-of-requires : tie.Need-leaf-of-requires
-leaf-of-requires c κs = search (needs, builder-cases)
-
 -- src/builders.rt:108:9
-push-requires : tie.Need-push-requires
-push-requires c κs = search (needs, builder-cases)
+push-words-requires : tie.Need-push-words-requires
+push-words-requires c κs = search (needs, builder-cases)
 
 -- src/builders.rt:109:5
 store-step-requires : tie.Need-store-step-requires
@@ -30,4 +25,4 @@ returns c = search (needs, builder-cases)
 
 pub tt-builder-push-spec : {M : Type 1} → statement M
 tt-builder-push-spec =
-    tie.close (tie.spec leaf-of-requires push-requires store-step-requires same-length returns)
+    tie.close (tie.spec push-words-requires store-step-requires same-length returns)
