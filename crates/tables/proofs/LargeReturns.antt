@@ -10,12 +10,14 @@ use Rattle.format.specs.Order.{amount}
 use Rattle.format.specs.MakeTables.{keyCount, keysOf, timesOf, tableCounts}
 use Rattle.format.proofs.Tally.{tally-same}
 use Rattle.format.proofs.TableKeys.{keys-many, keys-most, counts-many}
-use Rattle.tables.specs.Runs.{Room, Made, MadeIf}
-use Rattle.tables.specs.Pairs.{Scanned, Paired}
-use Rattle.tables.specs.Classes.{PairedIf}
-use Rattle.tables.proofs.Lists.{kept}
-use Rattle.tables.proofs.ScanReturns.{scanned-room, scanned-fits}
-use Rattle.tables.proofs.SettleLaw.{tally-take, put-behind, words-most}
+use Rattle.keys.specs.Runs.{Room}
+use Rattle.tables.specs.Runs.{Made, MadeIf}
+use Rattle.distinct.specs.Pairs.{Scanned, Paired}
+use Rattle.distinct.specs.Classes.{PairedIf}
+use Rattle.slots.proofs.Cases.{kept}
+use Rattle.distinct.proofs.ScanReturns.{scanned-room, scanned-fits}
+use Rattle.distinct.proofs.Amounts.{tally-take}
+use Rattle.tables.proofs.SettleLaw.{put-behind, words-most}
 
 module _ (l : List ℕ) (s : Bool) (n p : ℕ) (w w₁ t t₁ : List ℕ) (S : Scanned l s n p w w₁ t t₁) (e : n ≡ keyCount l s) where
   numbers : (p ≡ length (keysOf l s)) × ((k : ℕ) → k < p → getD w₁ k 0 ≡ getD (keysOf l s) k 0) × ((k : ℕ) → k < p → getD t₁ k 0 ≡ timesOf l s (getD (keysOf l s) k 0))

@@ -25,9 +25,10 @@ use Rattle.tree.specs.Refusal.{verdictAnswer}
 use Rattle.tree.specs.declared.refusal.Refusal.{Refusal}
 use Rattle.tree.specs.declared.refusal.Verdict.{Verdict}
 use Rattle.tree.specs.declared.refusal.Verdict.the-variants as verdicts
-use Rattle.tables.specs.Keys.{placeIn}
-use Rattle.tables.specs.Runs.{Room, Made}
-use Rattle.tables.specs.Count.{ample}
+use Rattle.keys.specs.Keys.{placeIn}
+use Rattle.keys.specs.Runs.{Room}
+use Rattle.tables.specs.Runs.{Made}
+use Rattle.distinct.specs.Count.{ample}
 use Rattle.tables.specs.Made.{tablesAnswer, PartsMade, TablesDone}
 use Rattle.tables.specs.declared.make.TablesReport.{TablesReport}
 use Rattle.tables.specs.declared.make.TablesReport.the-variants as answers

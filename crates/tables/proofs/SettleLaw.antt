@@ -20,33 +20,17 @@ use Rattle.format.proofs.NewsLaw.{news-rising}
 use Rattle.format.proofs.OrderLaw.{before-cases, before-more, before-tie}
 use Rattle.format.proofs.TableRuns.{run-length, run-front, run-behind}
 use Rattle.format.proofs.TableKeys.{keys-many, in-turn, only-order, count-at, counts-many}
-use Rattle.tables.specs.Keys.{placeIn}
+use Rattle.keys.specs.Keys.{placeIn}
 use Rattle.tables.specs.Runs.{keyAt}
-use Rattle.tables.specs.Pairs.{Behind, sooner, Rising, Shuffled, Paired, Settled, Expanding}
-use Rattle.tables.proofs.TableLaw.{in-step, in-mono, words-length}
+use Rattle.keys.specs.Runs.{Behind}
+use Rattle.order.specs.Sort.{sooner, Rising, Shuffled}
+use Rattle.distinct.specs.Pairs.{Paired}
+use Rattle.tables.specs.Settle.{Settled, Expanding}
+use Rattle.keys.proofs.RunLaw.{in-step, in-mono, in-least}
+use Rattle.distinct.proofs.Amounts.{tally-take}
+use Rattle.tables.proofs.TableLaw.{words-length}
 
--- ---- a tally over places is an amount of elements
-
-take-one : (w : List ℕ) (n : ℕ) → n < length w → take (suc n) w ≡ take n w ++ getD w n 0 ∷ []
-take-one w n h = take-suc w n 0 h
-
-pub amount-last : (f : ℕ → Bool) (l : List ℕ) (x : ℕ) → amount f (l ++ x ∷ []) ≡ (if f x then amount f l + 1 else amount f l)
-unfolding amount
-amount-last f [] x = refl
-amount-last f (y ∷ ys) x = go (f y) (f x) (amount-last f ys x)
-  where
-    go : (a b : Bool) → amount f (ys ++ x ∷ []) ≡ (if b then amount f ys + 1 else amount f ys)
-        → (if a then amount f (ys ++ x ∷ []) + 1 else amount f (ys ++ x ∷ []))
-        ≡ (if b then (if a then amount f ys + 1 else amount f ys) + 1 else (if a then amount f ys + 1 else amount f ys))
-    go true true e = omega arith
-    go true false e = omega arith
-    go false true e = e
-    go false false e = e
-
-pub tally-take : (f : ℕ → Bool) (w : List ℕ) (n : ℕ) → n ≤ length w → amount f (take n w) ≡ tally (λ i. f (getD w i 0)) n
-unfolding amount tally
-tally-take f w zero h = refl
-tally-take f w (suc n) h = ap (amount f) (take-one w n (omega arith)) ∙ amount-last f (take n w) (getD w n 0) ∙ rw (tally-take f w n (omega arith))
+-- ---- tests that places pass
 
 -- a test that no place passes
 none-pass : (h : ℕ → Bool) (n : ℕ) → tally h n ≡ 0 → (k : ℕ) → k < n → h k ≡ false
@@ -201,11 +185,6 @@ module _ (l : List ℕ) (s : Bool) (p : ℕ) (w t : List ℕ) (P : Paired l s p 
       }
 
 -- ---- the numbers give way to the words
-
-pub in-least : (s : Bool) (k : ℕ) → k ≤ placeIn s k
-unfolding placeIn
-in-least true k = omega arith
-in-least false k = omega arith
 
 in-zero : (s : Bool) → placeIn s 0 ≡ 0
 unfolding placeIn

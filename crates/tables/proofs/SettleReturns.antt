@@ -9,12 +9,15 @@ use lib.Seq.{sets}
 use Rattle.format.specs.Word.{put}
 use Rattle.format.specs.MakeTables.{keyCount, keyWords, limitOf, keysOf, tableKeys, tableWords}
 use Rattle.format.proofs.TableKeys.{keys-many, key-below}
-use Rattle.tables.specs.Keys.{placeIn}
-use Rattle.tables.specs.Runs.{keyAt, Room, Made}
-use Rattle.tables.specs.Pairs.{Behind, Rising, Shuffled, Paired, Settled, Expanding}
-use Rattle.tables.proofs.Lists.{kept}
-use Rattle.tables.proofs.SortLaw.{behind-none}
-use Rattle.tables.proofs.SettleLaw.{settled-many, settled-few, paired-shuffled, put-behind, expand-start, expand-step, expand-end, settled-counts, words-most, in-least}
+use Rattle.keys.specs.Keys.{placeIn}
+use Rattle.tables.specs.Runs.{keyAt, Made}
+use Rattle.keys.specs.Runs.{Room, Behind}
+use Rattle.order.specs.Sort.{Rising, Shuffled}
+use Rattle.distinct.specs.Pairs.{Paired}
+use Rattle.tables.specs.Settle.{Settled, Expanding}
+use Rattle.slots.proofs.Cases.{kept}
+use Rattle.keys.proofs.RunLaw.{behind-none, in-least}
+use Rattle.tables.proofs.SettleLaw.{settled-many, settled-few, paired-shuffled, put-behind, expand-start, expand-step, expand-end, settled-counts, words-most}
 
 module _ (l : List ℕ) (s : Bool) (p lim : ℕ) (w t : List ℕ) (P : Paired l s p w t) (e : lim ≡ limitOf s) where
   pub order-few : p ≤ lim → Settled l s p w t

@@ -16,22 +16,15 @@ use Rattle.format.proofs.Put.{put-length}
 use Rattle.format.proofs.OrderLaw.{all-mono, map-at, falling-bound, ordered-length, ordered-lt}
 use Rattle.format.proofs.TableKeys.{keys-many}
 use Rattle.pack.proofs.Store.{put-put, put-none}
-use Rattle.tables.specs.Keys.{liveIn, placeIn}
-use Rattle.tables.specs.Probe.{Filled}
-use Rattle.tables.specs.Arrange.{getD0, Holds}
-use Rattle.tables.specs.Runs.{keyAt, Room, Ready, Stored, Made}
+use Rattle.keys.specs.Keys.{liveIn, placeIn}
+use Rattle.distinct.specs.Gathered.{Filled}
+use Rattle.order.specs.Arrange.{getD0, Holds}
+use Rattle.tables.specs.Runs.{keyAt, Ready, Stored, Made}
+use Rattle.keys.specs.Runs.{Room}
+use Rattle.keys.proofs.RunLaw.{in-step, in-mono}
+use Rattle.distinct.proofs.GatherReturns.{filled-number}
 
 -- ---- one key behind the others
-
-pub in-step : (s : Bool) (k : ℕ) (l : List ℕ) (v : ℕ) → placeIn s k + length (keyWords l s v) ≡ placeIn s (k + 1)
-unfolding placeIn
-in-step true k l v = refl
-in-step false k l v = omega arith
-
-pub in-mono : (s : Bool) (k p : ℕ) → k < p → placeIn s (k + 1) ≤ placeIn s p
-unfolding placeIn
-in-mono true k p h = omega arith
-in-mono false k p h = omega arith
 
 words-append : (l : List ℕ) (s : Bool) (xs : List ℕ) (v : ℕ) → wordsOf l s (xs ++ v ∷ []) ≡ wordsOf l s xs ++ keyWords l s v
 unfolding wordsOf
@@ -122,12 +115,11 @@ unfolding ordered
 ordered-same f g limit p h = ap (λ (o : List ℕ). if leb p limit then range p 0 else o) (falling-same f g p 0 (λ r k. h r (omega arith)))
 
 module _ (l : List ℕ) (s : Bool) (N p : ℕ) (t f c : List ℕ) (F : Filled l s 1 0 N (keyCount l s) p t f c) where
+  as-many : p ≡ length (keysOf l s)
+  as-many = filled-number l s N p t f c F
+
   abbrev cnt : ℕ → ℕ
   cnt r = timesOf l s (getD (keysOf l s) r 0)
-
-  pub filled-number : p ≡ length (keysOf l s)
-  unfolding keysOf liveIn
-  filled-number = F .gathered .number
 
   same-counts : (r : ℕ) → r < p → getD0 c r ≡ cnt r
   unfolding keysOf timesOf liveIn
@@ -143,14 +135,14 @@ module _ (l : List ℕ) (s : Bool) (N p : ℕ) (t f c : List ℕ) (F : Filled l 
   pub ready : (o : List ℕ) → Holds o (ordered (getD0 c) (limitOf s) p) p → Ready l s p f c o
   unfolding Holds tableKeys
   ready o H =
-      let same : ordered (getD0 c) (limitOf s) p ≡ os = ordered-same (getD0 c) cnt (limitOf s) p same-counts ∙ ap (ordered cnt (limitOf s)) filled-number in
-      let lo : length os ≡ p = ordered-length cnt (limitOf s) (length (keysOf l s)) ∙ sym filled-number in
+      let same : ordered (getD0 c) (limitOf s) p ≡ os = ordered-same (getD0 c) cnt (limitOf s) p same-counts ∙ ap (ordered cnt (limitOf s)) as-many in
+      let lo : length os ≡ p = ordered-length cnt (limitOf s) (length (keysOf l s)) ∙ sym as-many in
       let e : (k : ℕ) → k < p → getD o k 0 ≡ getD os k 0 = λ k h. H k h ∙ ap (λ (x : List ℕ). getD x k 0) same in
       let b : (k : ℕ) → k < p → getD o k 0 < p = λ k h. rw (H k h) (ordered-lt (getD0 c) (limitOf s) p k h) in
       let m : (k : ℕ) → k < p → getD (keysOf l s) (getD o k 0) 0 ≡ getD (map (λ r. getD (keysOf l s) r 0) os) k 0 = λ k h.
       ap (λ (x : ℕ). getD (keysOf l s) x 0) (e k h) ∙ sym (map-at (λ r. getD (keysOf l s) r 0) os k (omega arith)) in
       record {
-        number = filled-number;
+        number = as-many;
         keys = λ k h. same-keys (getD o k 0) (b k h) ∙ m k h;
         counts = λ k h. same-counts (getD o k 0) (b k h) ∙ ap (timesOf l s) (m k h);
       }

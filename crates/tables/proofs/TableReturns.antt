@@ -10,11 +10,12 @@ use Rattle.format.specs.MakeTables.{keyCount, keyWords, limitOf, keysOf, timesO
 use Rattle.format.proofs.TableKeys.{keys-many, key-below}
 use Rattle.format.specs.Distinct.{tally}
 use Rattle.format.specs.Order.{ordered}
-use Rattle.tables.specs.Keys.{placeIn}
-use Rattle.tables.specs.Probe.{Filled, FilledIf}
-use Rattle.tables.specs.Arrange.{getD0, Counted, Holds}
-use Rattle.tables.specs.Runs.{keyAt, Room, Ready, Stored, Made, MadeIf}
-use Rattle.tables.proofs.Lists.{kept}
+use Rattle.keys.specs.Keys.{placeIn}
+use Rattle.distinct.specs.Gathered.{Filled, FilledIf}
+use Rattle.order.specs.Arrange.{getD0, Counted, Holds}
+use Rattle.tables.specs.Runs.{keyAt, Ready, Stored, Made, MadeIf}
+use Rattle.keys.specs.Runs.{Room}
+use Rattle.slots.proofs.Cases.{kept}
 use Rattle.tables.proofs.TableLaw.{stored-none, stored-more, stored-all, ready}
 
 -- ---- one key

@@ -6,17 +6,11 @@ use mathlib.Core.List.{List, map}
 use lib.ListN.{length, getD, take}
 use Rattle.format.specs.Word.{put}
 use Rattle.format.specs.MakeTables.{keysOf, timesOf, tableKeys, wordsOf, tableWords, tableCounts}
-use Rattle.tables.specs.Keys.{placeIn}
 
 module _ (l : List ℕ) (symbols : Bool) where
   -- the k-th key of the table
   abbrev pub keyAt : ℕ → ℕ
   keyAt k = getD (tableKeys l symbols) k 0
-
-  -- the runs have room for the keys' words and for their counts
-  pub record Room (w t : List ℕ) : Type 0 where
-    pub words : placeIn symbols (length (keysOf l symbols)) ≤ length w
-    pub tallies : length (keysOf l symbols) ≤ length t
 
   -- numbers f and counts c by rank, and the order o of the ranks, are those of the table's p keys
   pub record Ready (p : ℕ) (f c o : List ℕ) : Type 0 where

@@ -1,17 +1,18 @@
 // Numbers and counts that stand in the lent runs become the table: they are put in order, then words replace numbers.
-use crate::keys::get_at;
-use crate::keys::limit_of;
-use crate::keys::put_key;
-use crate::keys::size;
-use crate::sort::sort;
+use keys::key::limit_of;
+use keys::key::put_key;
+use keys::run::get_at;
+use order::sort::sort;
+use slots::probe::size;
 ghost use mathlib.Core.Path.{_≡_};
 ghost use Prim.Native.Nat.{_≤_, _<_};
 ghost use lib.ListN.{length};
-ghost use Rattle.format.specs.MakeTables.{keyCount};
+ghost use Rattle.format.specs.MakeTables.{keyCount, tableWords};
 ghost use Rattle.format.specs.Word.{put};
-ghost use Rattle.format.specs.MakeTables.{tableWords};
-ghost use Rattle.tables.specs.Runs.{Room, Made};
-ghost use Rattle.tables.specs.Pairs.{Behind, Paired, Settled};
+ghost use Rattle.keys.specs.Runs.{Room, Behind};
+ghost use Rattle.tables.specs.Runs.{Made};
+ghost use Rattle.distinct.specs.Pairs.{Paired};
+ghost use Rattle.tables.specs.Settle.{Settled};
 
 // The pairs are put in the table's order.
 fn put_in_order(symbols: bool, p: usize, l: &[u32], words: &mut [u32], tallies: &mut [u32])

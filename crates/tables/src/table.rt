@@ -1,25 +1,26 @@
 // The table of one kind of keys, stored into runs that have room for it.
-use crate::classes::by_classes;
-use crate::gather::gather;
-use crate::keys::get_at;
-use crate::keys::key_count;
-use crate::keys::level_after;
-use crate::keys::limit_of;
-use crate::keys::put_key;
-use crate::keys::set_at;
-use crate::keys::size;
-use crate::order::arrange;
-use crate::scan::scan;
 use crate::settle::settle;
+use distinct::classes::by_classes;
+use distinct::count::level_after;
+use distinct::gather::gather;
+use distinct::scan::scan;
+use keys::key::key_count;
+use keys::key::limit_of;
+use keys::key::put_key;
+use keys::run::get_at;
+use keys::run::set_at;
+use order::arrange::arrange;
+use slots::probe::size;
 ghost use mathlib.Core.Path.{_≡_};
 ghost use Prim.Native.Nat.{_≤_, _<_};
 ghost use lib.ListN.{length, set};
 ghost use lib.Seq.{sets};
 ghost use Rattle.format.specs.MakeTables.{keyCount, keyWords, timesOf};
-ghost use Rattle.tables.specs.Keys.{placeIn};
-ghost use Rattle.tables.specs.Probe.{Filled};
-ghost use Rattle.tables.specs.Arrange.{Counted};
-ghost use Rattle.tables.specs.Runs.{keyAt, Room, Ready, Made, MadeIf};
+ghost use Rattle.keys.specs.Keys.{placeIn};
+ghost use Rattle.distinct.specs.Gathered.{Filled};
+ghost use Rattle.order.specs.Arrange.{Counted};
+ghost use Rattle.tables.specs.Runs.{keyAt, Ready, Made, MadeIf};
+ghost use Rattle.keys.specs.Runs.{Room};
 
 // Stores the table's k-th key and its count.
 fn emit_one(

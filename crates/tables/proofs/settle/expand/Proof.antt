@@ -1,4 +1,4 @@
-use Rattle.tables.specs.Pairs.{Expanding}
+use Rattle.tables.specs.Settle.{Expanding}
 use lib.ListN.{length}
 use mathlib.Core.Path.{_≡_}
 use Prim.Native.Nat.{ℕ, _+_, _-_, _≤_, _<_}
@@ -8,9 +8,9 @@ use Rattle.tables.proofs.settle.expand.Statement.{statement}
 use Rattle.tables.proofs.settle.expand.Tie as tie
 use Rattle.tables.proofs.settle.expand.Reads as reads
 use Rattle.tables.proofs.settle.expand.Lts as lts
-use Rattle.tables.proofs.keys.get_at.Reads as get-at-reads
-use Rattle.tables.proofs.keys.put_key.Reads as put-key-reads
-use Rattle.tables.proofs.keys.size.Reads as size-reads
+use Rattle.keys.proofs.run.get_at.Reads as get-at-reads
+use Rattle.keys.proofs.key.put_key.Reads as put-key-reads
+use Rattle.slots.proofs.probe.size.Reads as size-reads
 
 abbrev Inv-loop : tie.InvT-loop
 Inv-loop l symbols p words₀ tallies k₀ words k = (k ≤ p) × (length words ≡ length words₀) × Expanding l symbols p k words₀ words
@@ -18,39 +18,30 @@ Inv-loop l symbols p words₀ tallies k₀ words k = (k ≤ p) × (length words 
 abbrev μ-loop : tie.MeasureT-loop
 μ-loop l symbols p words₀ tallies k₀ words k = k
 
--- src/settle.rt:38:5
 loop-holds : tie.Need-loop-holds Inv-loop μ-loop
 loop-holds c = search (needs, expand-cases)
 
--- src/settle.rt:39:13
 sub-k : tie.Need-sub-k Inv-loop μ-loop
 sub-k c = search (needs, expand-cases)
 
--- src/settle.rt:40:22
 get-at-requires : tie.Need-get-at-requires Inv-loop μ-loop
 get-at-requires c κs = search (needs, expand-cases)
 
--- src/settle.rt:40:13
 size-requires : tie.Need-size-requires Inv-loop μ-loop
 size-requires c κs = search (needs, expand-cases)
 
--- src/settle.rt:41:9
 put-key-requires : tie.Need-put-key-requires Inv-loop μ-loop
 put-key-requires c κs = search (needs, expand-cases)
 
--- src/settle.rt:38:5
 loop-less : tie.Need-loop-less Inv-loop μ-loop
 loop-less c = search (needs, expand-cases)
 
--- src/settle.rt:38:5
 loop-again : tie.Need-loop-again Inv-loop μ-loop
 loop-again c = search (needs, expand-cases)
 
--- src/settle.rt:32:1
 same-length : tie.Need-same-length Inv-loop μ-loop
 same-length c = search (needs, expand-cases)
 
--- src/settle.rt:32:1
 returns : tie.Need-returns Inv-loop μ-loop
 returns c = search (needs, expand-cases)
 

@@ -4,30 +4,24 @@ use Rattle.tables.proofs.settle.put_in_order.Statement.{statement}
 use Rattle.tables.proofs.settle.put_in_order.Tie as tie
 use Rattle.tables.proofs.settle.put_in_order.Reads as reads
 use Rattle.tables.proofs.settle.put_in_order.Lts as lts
-use Rattle.tables.proofs.keys.limit_of.Reads as limit-of-reads
-use Rattle.tables.proofs.sort.sort.Reads as sort-reads
+use Rattle.keys.proofs.key.limit_of.Reads as limit-of-reads
+use Rattle.order.proofs.sort.sort.Reads as sort-reads
 
--- src/settle.rt:25:13
 limit-of-requires : tie.Need-limit-of-requires
 limit-of-requires c κs = search (needs, order-cases)
 
--- src/settle.rt:26:9
 returns : tie.Need-returns
 returns c = search (needs, order-cases)
 
--- src/settle.rt:28:5
 sort-requires : tie.Need-sort-requires
 sort-requires c κs = search (needs, order-cases)
 
--- src/settle.rt:18:1
 same-length : tie.Need-same-length
 same-length c = search (needs, order-cases)
 
--- src/settle.rt:18:1
 same-length-2 : tie.Need-same-length-2
 same-length-2 c = search (needs, order-cases)
 
--- src/settle.rt:18:1
 returns-2 : tie.Need-returns-2
 returns-2 c = search (needs, order-cases)
 

@@ -7,23 +7,18 @@ use Rattle.tables.proofs.settle.settle.Lts as lts
 use Rattle.tables.proofs.settle.expand.Reads as expand-reads
 use Rattle.tables.proofs.settle.put_in_order.Reads as put-in-order-reads
 
--- src/settle.rt:50:5
 put-in-order-requires : tie.Need-put-in-order-requires
 put-in-order-requires c κs = search (needs, settle-cases)
 
--- src/settle.rt:51:5
 expand-requires : tie.Need-expand-requires
 expand-requires c κs = ((search (needs, settle-cases), search (needs, settle-cases)), (search (needs, settle-cases), search (needs, settle-cases)))
 
--- src/settle.rt:45:1
 same-length : tie.Need-same-length
 same-length c = search (needs, settle-cases)
 
--- src/settle.rt:45:1
 same-length-2 : tie.Need-same-length-2
 same-length-2 c = search (needs, settle-cases)
 
--- src/settle.rt:45:1
 returns : tie.Need-returns
 returns c = search (needs, settle-cases)
 

@@ -7,7 +7,7 @@ use Rattle.tables.proofs.table.tries.Reads as tries
 use Rattle.tables.proofs.table.tries.Kinds as tries-kinds
 use Rattle.tables.proofs.table.+tries.Lts-tries as tries-lts
 use Rattle.tables.proofs.table.large.Reads as large-reads
-use Rattle.tables.proofs.keys.level_after.Reads as level-after-reads
+use Rattle.distinct.proofs.count.level_after.Reads as level-after-reads
 use Rattle.tables.proofs.table.middle.Reads as middle-reads
 use Rattle.tables.proofs.table.small.Reads as small-reads
 use Rattle.tables.proofs.table.wide.Reads as wide-reads
@@ -23,7 +23,6 @@ tries-at t = and 3 tries-kinds.ps (is 3 tries-kinds.ps μ-tries t) tries.Pre
 abbrev tries-below : ℕ → In 3 tries-kinds.ps
 tries-below t = and 3 tries-kinds.ps (falls 3 tries-kinds.ps _<_ μ-tries t) tries.Pre
 
--- src/table.rt:250:13
 tries-small-requires : (t : ℕ) → tries-lts.Need-small-requires (
   small-reads.Asked,
   small-reads.Learnt,
@@ -40,7 +39,6 @@ tries-small-requires : (t : ℕ) → tries-lts.Need-small-requires (
 ) (tries-at t) tries.Post
 tries-small-requires t c κs = search (needs, tries-cases)
 
--- src/table.rt:252:13
 tries-same-length : (t : ℕ) → tries-lts.Need-same-length (
   small-reads.Asked,
   small-reads.Learnt,
@@ -57,7 +55,6 @@ tries-same-length : (t : ℕ) → tries-lts.Need-same-length (
 ) (tries-at t) tries.Post
 tries-same-length t c = search (needs, tries-cases)
 
--- src/table.rt:252:13
 tries-same-length-2 : (t : ℕ) → tries-lts.Need-same-length-2 (
   small-reads.Asked,
   small-reads.Learnt,
@@ -74,7 +71,6 @@ tries-same-length-2 : (t : ℕ) → tries-lts.Need-same-length-2 (
 ) (tries-at t) tries.Post
 tries-same-length-2 t c = search (needs, tries-cases)
 
--- src/table.rt:252:13
 tries-returns : (t : ℕ) → tries-lts.Need-returns (
   small-reads.Asked,
   small-reads.Learnt,
@@ -91,7 +87,6 @@ tries-returns : (t : ℕ) → tries-lts.Need-returns (
 ) (tries-at t) tries.Post
 tries-returns t c = search (needs, tries-cases)
 
--- src/table.rt:254:37
 tries-level-after-requires : (t : ℕ) → tries-lts.Need-level-after-requires (
   small-reads.Asked,
   small-reads.Learnt,
@@ -108,7 +103,6 @@ tries-level-after-requires : (t : ℕ) → tries-lts.Need-level-after-requires (
 ) (tries-at t) tries.Post
 tries-level-after-requires t c κs = search (needs, tries-cases)
 
--- src/table.rt:254:9
 tries-tries-requires : (t : ℕ) → tries-lts.Need-tries-requires (
   small-reads.Asked,
   small-reads.Learnt,
@@ -125,7 +119,6 @@ tries-tries-requires : (t : ℕ) → tries-lts.Need-tries-requires (
 ) (tries-at t) tries.Post
 tries-tries-requires t c κs = search (needs, tries-cases)
 
--- src/table.rt:254:9
 tries-same-length-3 : (t : ℕ) → tries-lts.Need-same-length-3 (
   small-reads.Asked,
   small-reads.Learnt,
@@ -142,7 +135,6 @@ tries-same-length-3 : (t : ℕ) → tries-lts.Need-same-length-3 (
 ) (tries-at t) tries.Post
 tries-same-length-3 t c = search (needs, tries-cases)
 
--- src/table.rt:254:9
 tries-same-length-4 : (t : ℕ) → tries-lts.Need-same-length-4 (
   small-reads.Asked,
   small-reads.Learnt,
@@ -159,7 +151,6 @@ tries-same-length-4 : (t : ℕ) → tries-lts.Need-same-length-4 (
 ) (tries-at t) tries.Post
 tries-same-length-4 t c = search (needs, tries-cases)
 
--- src/table.rt:254:9
 tries-returns-2 : (t : ℕ) → tries-lts.Need-returns-2 (
   small-reads.Asked,
   small-reads.Learnt,
@@ -176,7 +167,6 @@ tries-returns-2 : (t : ℕ) → tries-lts.Need-returns-2 (
 ) (tries-at t) tries.Post
 tries-returns-2 t c = search (needs, tries-cases)
 
--- src/table.rt:257:13
 tries-middle-requires : (t : ℕ) → tries-lts.Need-middle-requires (
   small-reads.Asked,
   small-reads.Learnt,
@@ -193,7 +183,6 @@ tries-middle-requires : (t : ℕ) → tries-lts.Need-middle-requires (
 ) (tries-at t) tries.Post
 tries-middle-requires t c κs = search (needs, tries-cases)
 
--- src/table.rt:259:13
 tries-same-length-5 : (t : ℕ) → tries-lts.Need-same-length-5 (
   small-reads.Asked,
   small-reads.Learnt,
@@ -210,7 +199,6 @@ tries-same-length-5 : (t : ℕ) → tries-lts.Need-same-length-5 (
 ) (tries-at t) tries.Post
 tries-same-length-5 t c = search (needs, tries-cases)
 
--- src/table.rt:259:13
 tries-same-length-6 : (t : ℕ) → tries-lts.Need-same-length-6 (
   small-reads.Asked,
   small-reads.Learnt,
@@ -227,7 +215,6 @@ tries-same-length-6 : (t : ℕ) → tries-lts.Need-same-length-6 (
 ) (tries-at t) tries.Post
 tries-same-length-6 t c = search (needs, tries-cases)
 
--- src/table.rt:259:13
 tries-returns-3 : (t : ℕ) → tries-lts.Need-returns-3 (
   small-reads.Asked,
   small-reads.Learnt,
@@ -244,7 +231,6 @@ tries-returns-3 : (t : ℕ) → tries-lts.Need-returns-3 (
 ) (tries-at t) tries.Post
 tries-returns-3 t c = search (needs, tries-cases)
 
--- src/table.rt:261:9
 tries-tries-requires-2 : (t : ℕ) → tries-lts.Need-tries-requires-2 (
   small-reads.Asked,
   small-reads.Learnt,
@@ -261,7 +247,6 @@ tries-tries-requires-2 : (t : ℕ) → tries-lts.Need-tries-requires-2 (
 ) (tries-at t) tries.Post
 tries-tries-requires-2 t c κs = search (needs, tries-cases)
 
--- src/table.rt:261:9
 tries-same-length-7 : (t : ℕ) → tries-lts.Need-same-length-7 (
   small-reads.Asked,
   small-reads.Learnt,
@@ -278,7 +263,6 @@ tries-same-length-7 : (t : ℕ) → tries-lts.Need-same-length-7 (
 ) (tries-at t) tries.Post
 tries-same-length-7 t c = search (needs, tries-cases)
 
--- src/table.rt:261:9
 tries-same-length-8 : (t : ℕ) → tries-lts.Need-same-length-8 (
   small-reads.Asked,
   small-reads.Learnt,
@@ -295,7 +279,6 @@ tries-same-length-8 : (t : ℕ) → tries-lts.Need-same-length-8 (
 ) (tries-at t) tries.Post
 tries-same-length-8 t c = search (needs, tries-cases)
 
--- src/table.rt:261:9
 tries-returns-4 : (t : ℕ) → tries-lts.Need-returns-4 (
   small-reads.Asked,
   small-reads.Learnt,
@@ -312,7 +295,6 @@ tries-returns-4 : (t : ℕ) → tries-lts.Need-returns-4 (
 ) (tries-at t) tries.Post
 tries-returns-4 t c = search (needs, tries-cases)
 
--- src/table.rt:264:13
 tries-wide-requires : (t : ℕ) → tries-lts.Need-wide-requires (
   small-reads.Asked,
   small-reads.Learnt,
@@ -329,7 +311,6 @@ tries-wide-requires : (t : ℕ) → tries-lts.Need-wide-requires (
 ) (tries-at t) tries.Post
 tries-wide-requires t c κs = search (needs, tries-cases)
 
--- src/table.rt:266:13
 tries-same-length-9 : (t : ℕ) → tries-lts.Need-same-length-9 (
   small-reads.Asked,
   small-reads.Learnt,
@@ -346,7 +327,6 @@ tries-same-length-9 : (t : ℕ) → tries-lts.Need-same-length-9 (
 ) (tries-at t) tries.Post
 tries-same-length-9 t c = search (needs, tries-cases)
 
--- src/table.rt:266:13
 tries-same-length-10 : (t : ℕ) → tries-lts.Need-same-length-10 (
   small-reads.Asked,
   small-reads.Learnt,
@@ -363,7 +343,6 @@ tries-same-length-10 : (t : ℕ) → tries-lts.Need-same-length-10 (
 ) (tries-at t) tries.Post
 tries-same-length-10 t c = search (needs, tries-cases)
 
--- src/table.rt:266:13
 tries-returns-5 : (t : ℕ) → tries-lts.Need-returns-5 (
   small-reads.Asked,
   small-reads.Learnt,
@@ -380,7 +359,6 @@ tries-returns-5 : (t : ℕ) → tries-lts.Need-returns-5 (
 ) (tries-at t) tries.Post
 tries-returns-5 t c = search (needs, tries-cases)
 
--- src/table.rt:268:9
 tries-tries-requires-3 : (t : ℕ) → tries-lts.Need-tries-requires-3 (
   small-reads.Asked,
   small-reads.Learnt,
@@ -397,7 +375,6 @@ tries-tries-requires-3 : (t : ℕ) → tries-lts.Need-tries-requires-3 (
 ) (tries-at t) tries.Post
 tries-tries-requires-3 t c κs = search (needs, tries-cases)
 
--- src/table.rt:268:9
 tries-same-length-11 : (t : ℕ) → tries-lts.Need-same-length-11 (
   small-reads.Asked,
   small-reads.Learnt,
@@ -414,7 +391,6 @@ tries-same-length-11 : (t : ℕ) → tries-lts.Need-same-length-11 (
 ) (tries-at t) tries.Post
 tries-same-length-11 t c = search (needs, tries-cases)
 
--- src/table.rt:268:9
 tries-same-length-12 : (t : ℕ) → tries-lts.Need-same-length-12 (
   small-reads.Asked,
   small-reads.Learnt,
@@ -431,7 +407,6 @@ tries-same-length-12 : (t : ℕ) → tries-lts.Need-same-length-12 (
 ) (tries-at t) tries.Post
 tries-same-length-12 t c = search (needs, tries-cases)
 
--- src/table.rt:268:9
 tries-returns-6 : (t : ℕ) → tries-lts.Need-returns-6 (
   small-reads.Asked,
   small-reads.Learnt,
@@ -448,7 +423,6 @@ tries-returns-6 : (t : ℕ) → tries-lts.Need-returns-6 (
 ) (tries-at t) tries.Post
 tries-returns-6 t c = search (needs, tries-cases)
 
--- src/table.rt:270:5
 tries-large-requires : (t : ℕ) → tries-lts.Need-large-requires (
   small-reads.Asked,
   small-reads.Learnt,
@@ -465,7 +439,6 @@ tries-large-requires : (t : ℕ) → tries-lts.Need-large-requires (
 ) (tries-at t) tries.Post
 tries-large-requires t c κs = search (needs, tries-cases)
 
--- src/table.rt:236:1
 tries-same-length-13 : (t : ℕ) → tries-lts.Need-same-length-13 (
   small-reads.Asked,
   small-reads.Learnt,
@@ -482,7 +455,6 @@ tries-same-length-13 : (t : ℕ) → tries-lts.Need-same-length-13 (
 ) (tries-at t) tries.Post
 tries-same-length-13 t c = search (needs, tries-cases)
 
--- src/table.rt:236:1
 tries-same-length-14 : (t : ℕ) → tries-lts.Need-same-length-14 (
   small-reads.Asked,
   small-reads.Learnt,
@@ -499,7 +471,6 @@ tries-same-length-14 : (t : ℕ) → tries-lts.Need-same-length-14 (
 ) (tries-at t) tries.Post
 tries-same-length-14 t c = search (needs, tries-cases)
 
--- src/table.rt:236:1
 tries-returns-7 : (t : ℕ) → tries-lts.Need-returns-7 (
   small-reads.Asked,
   small-reads.Learnt,

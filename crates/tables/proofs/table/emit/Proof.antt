@@ -16,35 +16,27 @@ Inv-loop l symbols p firsts counts order words₀ tallies₀ k₀ words tallies 
 abbrev μ-loop : tie.MeasureT-loop
 μ-loop l symbols p firsts counts order words₀ tallies₀ k₀ words tallies k = p - k
 
--- src/table.rt:62:5
 loop-holds : tie.Need-loop-holds Inv-loop μ-loop
 loop-holds c = search (needs, emit-cases)
 
--- src/table.rt:63:9
 emit-one-requires : tie.Need-emit-one-requires Inv-loop μ-loop
 emit-one-requires c κs = search (needs, emit-cases)
 
--- src/table.rt:64:13
 add-k : tie.Need-add-k Inv-loop μ-loop
 add-k c = search (needs, emit-cases)
 
--- src/table.rt:62:5
 loop-less : tie.Need-loop-less Inv-loop μ-loop
 loop-less c = search (needs, emit-cases)
 
--- src/table.rt:62:5
 loop-again : tie.Need-loop-again Inv-loop μ-loop
 loop-again c = search (needs, emit-cases)
 
--- src/table.rt:46:1
 same-length : tie.Need-same-length Inv-loop μ-loop
 same-length c = search (needs, emit-cases)
 
--- src/table.rt:46:1
 same-length-2 : tie.Need-same-length-2 Inv-loop μ-loop
 same-length-2 c = search (needs, emit-cases)
 
--- src/table.rt:46:1
 returns : tie.Need-returns Inv-loop μ-loop
 returns c = search (needs, emit-cases)
 

@@ -4,39 +4,31 @@ use Rattle.tables.proofs.table.finish.Statement.{statement}
 use Rattle.tables.proofs.table.finish.Tie as tie
 use Rattle.tables.proofs.table.finish.Reads as reads
 use Rattle.tables.proofs.table.finish.Lts as lts
-use Rattle.tables.proofs.keys.limit_of.Reads as limit-of-reads
-use Rattle.tables.proofs.order.arrange.Reads as arrange-reads
+use Rattle.keys.proofs.key.limit_of.Reads as limit-of-reads
+use Rattle.order.proofs.arrange.arrange.Reads as arrange-reads
 use Rattle.tables.proofs.table.emit.Reads as emit-reads
 
--- src/table.rt:86:24
 limit-of-requires : tie.Need-limit-of-requires
 limit-of-requires c κs = search (needs, finish-cases)
 
--- src/table.rt:86:5
 arrange-requires : tie.Need-arrange-requires
 arrange-requires c κs = search (needs, finish-cases)
 
--- src/table.rt:87:5
 emit-requires : tie.Need-emit-requires
 emit-requires c κs = ((search (needs, finish-cases), search (needs, finish-cases)), (search (needs, finish-cases), search (needs, finish-cases)))
 
--- src/table.rt:69:1
 same-length : tie.Need-same-length
 same-length c = search (needs, finish-cases)
 
--- src/table.rt:69:1
 same-length-2 : tie.Need-same-length-2
 same-length-2 c = search (needs, finish-cases)
 
--- src/table.rt:69:1
 same-length-3 : tie.Need-same-length-3
 same-length-3 c = search (needs, finish-cases)
 
--- src/table.rt:69:1
 same-length-4 : tie.Need-same-length-4
 same-length-4 c = search (needs, finish-cases)
 
--- src/table.rt:69:1
 returns : tie.Need-returns
 returns c = search (needs, finish-cases)
 

@@ -4,43 +4,34 @@ use Rattle.tables.proofs.table.large.Statement.{statement}
 use Rattle.tables.proofs.table.large.Tie as tie
 use Rattle.tables.proofs.table.large.Reads as reads
 use Rattle.tables.proofs.table.large.Lts as lts
-use Rattle.tables.proofs.classes.by_classes.Reads as by-classes-reads
+use Rattle.distinct.proofs.classes.by_classes.Reads as by-classes-reads
 use Rattle.tables.proofs.settle.settle.Reads as settle-reads
 use Rattle.tables.proofs.table.slow.Reads as slow-reads
 
--- src/table.rt:185:9
 by-classes-requires : tie.Need-by-classes-requires
 by-classes-requires c κs = search (needs, quick-cases)
 
--- src/table.rt:187:9
 settle-requires : tie.Need-settle-requires
 settle-requires c κs = ((search (needs, quick-cases), search (needs, quick-cases)), (search (needs, quick-cases), search (needs, quick-cases)))
 
--- src/table.rt:188:9
 same-length : tie.Need-same-length
 same-length c = search (needs, quick-cases)
 
--- src/table.rt:188:9
 same-length-2 : tie.Need-same-length-2
 same-length-2 c = search (needs, quick-cases)
 
--- src/table.rt:188:9
 returns : tie.Need-returns
 returns c = search (needs, quick-cases)
 
--- src/table.rt:190:5
 slow-requires : tie.Need-slow-requires
 slow-requires c κs = search (needs, quick-cases)
 
--- src/table.rt:180:1
 same-length-3 : tie.Need-same-length-3
 same-length-3 c = search (needs, quick-cases)
 
--- src/table.rt:180:1
 same-length-4 : tie.Need-same-length-4
 same-length-4 c = search (needs, quick-cases)
 
--- src/table.rt:180:1
 returns-2 : tie.Need-returns-2
 returns-2 c = search (needs, quick-cases)
 

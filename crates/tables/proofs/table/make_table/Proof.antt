@@ -4,26 +4,21 @@ use Rattle.tables.proofs.table.make_table.Statement.{statement}
 use Rattle.tables.proofs.table.make_table.Tie as tie
 use Rattle.tables.proofs.table.make_table.Reads as reads
 use Rattle.tables.proofs.table.make_table.Lts as lts
-use Rattle.tables.proofs.keys.key_count.Reads as key-count-reads
+use Rattle.keys.proofs.key.key_count.Reads as key-count-reads
 use Rattle.tables.proofs.table.tries.Reads as tries-reads
 
--- src/table.rt:208:9
 key-count-requires : tie.Need-key-count-requires
 key-count-requires c κs = search (needs, made-fits)
 
--- src/table.rt:209:5
 tries-requires : tie.Need-tries-requires
 tries-requires c κs = search (needs, made-fits)
 
--- src/table.rt:202:1
 same-length : tie.Need-same-length
 same-length c = search (needs, made-fits)
 
--- src/table.rt:202:1
 same-length-2 : tie.Need-same-length-2
 same-length-2 c = search (needs, made-fits)
 
--- src/table.rt:202:1
 returns : tie.Need-returns
 returns c = search (needs, made-fits)
 

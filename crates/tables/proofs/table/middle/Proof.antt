@@ -1,8 +1,8 @@
 use mathlib.Core.Path.{refl}
 use native.Mathlib.Omega.{arith}
-use Rattle.tables.proofs.Lists.{zeros-pos, zeros-most}
-use Rattle.tables.proofs.ArrangeLaw.{counted-zeros}
-use Rattle.tables.proofs.GatherReturns.{filled-none}
+use Rattle.keys.proofs.Lists.{zeros-pos, zeros-most}
+use Rattle.order.proofs.ArrangeLaw.{counted-zeros}
+use Rattle.distinct.proofs.GatherReturns.{filled-none}
 use borrow.Author.Needs.{needs}
 use Rattle.tables.proofs.TableReturns.{zeros-le}
 use Rattle.tables.proofs.table.middle.Statement.{statement}
@@ -11,35 +11,27 @@ use Rattle.tables.proofs.table.middle.Reads as reads
 use Rattle.tables.proofs.table.middle.Lts as lts
 use Rattle.tables.proofs.table.through.Reads as through-reads
 
--- src/table.rt:157:9
 slice-aggregate-through : tie.Need-slice-aggregate-through
 slice-aggregate-through c = search needs
 
--- src/table.rt:158:9
 slice-aggregate-through-2 : tie.Need-slice-aggregate-through-2
 slice-aggregate-through-2 c = search needs
 
--- src/table.rt:159:9
 slice-aggregate-through-3 : tie.Need-slice-aggregate-through-3
 slice-aggregate-through-3 c = search needs
 
--- src/table.rt:160:9
 slice-aggregate-through-4 : tie.Need-slice-aggregate-through-4
 slice-aggregate-through-4 c = search needs
 
--- src/table.rt:151:5
 through-requires : tie.Need-through-requires
 through-requires c κs = ((search needs, search needs), ((zeros-pos 65536 (omega arith), zeros-most 65536 1048576 (omega arith), zeros-le 32768 65536 (omega arith)), ((refl, counted-zeros _ 4096), (filled-none _ _ 1 0 65536 32768 _, search needs))))
 
--- src/table.rt:142:1
 same-length : tie.Need-same-length
 same-length c = search needs
 
--- src/table.rt:142:1
 same-length-2 : tie.Need-same-length-2
 same-length-2 c = search needs
 
--- src/table.rt:142:1
 returns : tie.Need-returns
 returns c = search needs
 

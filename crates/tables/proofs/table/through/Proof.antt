@@ -4,30 +4,24 @@ use Rattle.tables.proofs.table.through.Statement.{statement}
 use Rattle.tables.proofs.table.through.Tie as tie
 use Rattle.tables.proofs.table.through.Reads as reads
 use Rattle.tables.proofs.table.through.Lts as lts
-use Rattle.tables.proofs.gather.gather.Reads as gather-reads
+use Rattle.distinct.proofs.gather.gather.Reads as gather-reads
 use Rattle.tables.proofs.table.finish.Reads as finish-reads
 
--- src/table.rt:110:9
 gather-requires : tie.Need-gather-requires
 gather-requires c κs = ((search (needs, through-cases), search (needs, through-cases), search (needs, through-cases)), ((search (needs, through-cases), search (needs, through-cases)), ((search (needs, through-cases), search (needs, through-cases)), search (needs, through-cases))))
 
--- src/table.rt:112:9
 same-length : tie.Need-same-length
 same-length c = search (needs, through-cases)
 
--- src/table.rt:112:9
 same-length-2 : tie.Need-same-length-2
 same-length-2 c = search (needs, through-cases)
 
--- src/table.rt:112:9
 same-length-3 : tie.Need-same-length-3
 same-length-3 c = search (needs, through-cases)
 
--- src/table.rt:112:9
 returns : tie.Need-returns
 returns c = search (needs, through-cases)
 
--- src/table.rt:114:5
 finish-requires : tie.Need-finish-requires
 finish-requires c κs = (
   (search (needs, through-cases), search (needs, through-cases)),
@@ -40,31 +34,24 @@ finish-requires c κs = (
   ),
 )
 
--- src/table.rt:91:1
 same-length-4 : tie.Need-same-length-4
 same-length-4 c = search (needs, through-cases)
 
--- src/table.rt:91:1
 same-length-5 : tie.Need-same-length-5
 same-length-5 c = search (needs, through-cases)
 
--- src/table.rt:91:1
 same-length-6 : tie.Need-same-length-6
 same-length-6 c = search (needs, through-cases)
 
--- src/table.rt:91:1
 same-length-7 : tie.Need-same-length-7
 same-length-7 c = search (needs, through-cases)
 
--- src/table.rt:91:1
 same-length-8 : tie.Need-same-length-8
 same-length-8 c = search (needs, through-cases)
 
--- src/table.rt:91:1
 same-length-9 : tie.Need-same-length-9
 same-length-9 c = search (needs, through-cases)
 
--- src/table.rt:91:1
 returns-2 : tie.Need-returns-2
 returns-2 c = search (needs, through-cases)
 
