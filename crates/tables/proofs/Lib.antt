@@ -1,6 +1,1 @@
-pub mod TableLaw
-pub mod TableReturns
-pub mod SettleLaw
-pub mod SettleReturns
-pub mod LargeReturns
 pub mod MakeReturns

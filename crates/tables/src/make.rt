@@ -1,6 +1,6 @@
 // The tables of a list, made in lent runs.
-use crate::table::make_table;
 use distinct::count::has_room;
+use entries::table::make_table;
 use keys::run::get_at;
 use keys::run::set_at;
 use list::rows::list_rows;

@@ -5,7 +5,7 @@ use Rattle.tables.proofs.make.make_parts.Tie as tie
 use Rattle.tables.proofs.make.make_parts.Reads as reads
 use Rattle.tables.proofs.make.make_parts.Lts as lts
 use Rattle.tables.proofs.make.put_root.Reads as put-root-reads
-use Rattle.tables.proofs.table.make_table.Reads as make-table-reads
+use Rattle.entries.proofs.table.make_table.Reads as make-table-reads
 
 make-table-requires : tie.Need-make-table-requires
 make-table-requires c κs = search (needs, parts-cases)
