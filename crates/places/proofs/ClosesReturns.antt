@@ -15,7 +15,7 @@ use Rattle.places.specs.Key.{sameKey, keyAt, keyCount, isKey}
 use Rattle.places.specs.Places.{Placed, AsOpen, Tells, Closed, Copied}
 use Rattle.places.specs.declared.key.Key.{Key}
 use Rattle.places.specs.declared.key.Layout.the-variants.{Part, Open, Close, Name}
-use Rattle.places.proofs.Cases.{eq-or-ne, kept}
+use Rattle.slots.proofs.Cases.{eq-or-ne, kept}
 use Rattle.places.proofs.IndexLaw.{same-eq}
 use Rattle.places.proofs.WholeReturns.{open-inside, close-inside}
 

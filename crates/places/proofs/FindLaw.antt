@@ -9,7 +9,7 @@ use Rattle.format.specs.Test.{if_then_else_}
 use Rattle.format.specs.Writer.{find}
 use Rattle.format.proofs.First.{find-to}
 use Rattle.places.specs.Places.{soFar}
-use Rattle.places.proofs.Cases.{lt-or-le}
+use Rattle.format.proofs.Tally.{lt-or-le}
 
 module _ (t : ℕ → Bool) where
   -- found in the first run

@@ -13,13 +13,15 @@ use Rattle.format.specs.Writer.{find}
 use Rattle.format.proofs.Each.{and₃, true-false}
 use Rattle.format.proofs.First.{find-at, find-from, find-to, find-first, none-find}
 use Rattle.places.specs.Key.{sameKey, isKey}
-use Rattle.places.specs.Index.{slotOf, probe, occupied, Leads, Held, Finds, Filled}
+use Rattle.slots.specs.Probe.{probe, occupied}
+use Rattle.places.specs.Index.{slotOf, Leads, Held, Finds, Filled}
 use Rattle.places.specs.declared.key.Key.{Key}
-use Rattle.places.specs.declared.index.Looked.{Looked}
-use Rattle.places.specs.declared.index.Looked.the-variants.{Found, Empty, Full}
+use Rattle.slots.specs.declared.probe.Looked.{Looked}
+use Rattle.slots.specs.declared.probe.Looked.the-variants.{Found, Empty, Full}
 use Rattle.places.proofs.FindLaw.{find-on, find-here}
-use Rattle.places.proofs.Cases.{lt-or-le, eq-or-ne}
-use Rattle.places.proofs.ProbeLaw.{Nothing, found-empty, found-full, probe-miss, probe-found, probe-empty, probe-keep, probe-new, Met, on, round, probe-full, occupied-none, occupied-set, occupied-all}
+use Rattle.format.proofs.Tally.{lt-or-le}
+use Rattle.slots.proofs.Cases.{eq-or-ne}
+use Rattle.slots.proofs.ProbeLaw.{Nothing, found-empty, found-full, probe-miss, probe-found, probe-empty, probe-keep, probe-new, Met, on, round, probe-full, occupied-none, occupied-set, occupied-all}
 
 -- ---- keys that are the same
 

@@ -1,105 +1,42 @@
 -- One law for each return of the functions of src/index.rt.
-use Prim.Native.Nat.{ℕ, zero, suc, _+_, _*_, _-_, _/_, _%_, _<_, _≤_}
+use Prim.Native.Nat.{ℕ, suc, _+_, _-_, _<_, _≤_}
 use mathlib.Core.Bool.{Bool, true, false}
 use mathlib.Core.Logic.{⊎-elim}
 use mathlib.Core.Path.{_≡_, refl, ap, sym, _∙_, subst}
 use mathlib.Core.List.{List}
 use native.Mathlib.Omega.{arith}
-use native.Mathlib.Nat.{mul-le-mul, mul-lt-mul-of-pos-right, div-lt-iff-lt-mul, mul-comm}
-use borrow.Author.Tests.{lt-ltb, le-ltb}
 use lib.ListN.{length, getD, set, length-set}
 use lib.Seq.{getD-set-same, getD-set-other}
-use lib.Dec.{ltb}
-use Rattle.format.specs.Test.{if_then_else_}
 use Rattle.places.specs.Key.{sameKey, keyAt, keyCount, shift, isKey}
-use Rattle.places.specs.Index.{slotOf, nextSlot, atSlot, probe, probeFor, Held, Loaded, Within, Finds, Filled}
+use Rattle.slots.specs.Probe.{nextSlot, probe}
+use Rattle.places.specs.Index.{slotOf, probeFor, Held, Loaded, Within, Finds, Filled}
 use Rattle.places.specs.declared.key.Key.{Key}
 use Rattle.places.specs.declared.key.Layout.{Layout}
-use Rattle.places.specs.declared.index.Looked.{Looked}
-use Rattle.places.specs.declared.index.Looked.the-variants.{Found, Empty, Full}
-use Rattle.places.proofs.Cases.{eq-or-ne, kept}
-use Rattle.places.proofs.ProbeLaw.{probe-empty}
+use Rattle.slots.specs.declared.probe.Looked.{Looked}
+use Rattle.slots.specs.declared.probe.Looked.the-variants.{Found, Empty, Full}
+use Rattle.slots.proofs.Cases.{eq-or-ne, kept}
+use Rattle.slots.proofs.ProbeLaw.{probe-empty}
+use Rattle.slots.proofs.LookLaw.{look-full, look-empty, look-found, look-on}
 use Rattle.places.proofs.IndexLaw.{held-below, held-finds, held-room, enter-found, enter-new, held-empty}
-
--- ---- slots
-
-pub scaled-lt : (h size : ℕ) → 0 < size → h < 4294967296 → h * size / 4294967296 < size
-scaled-lt h size z k =
-    let big : 0 < 4294967296 = omega arith in
-    let lt : h * size < 4294967296 * size = mul-lt-mul-of-pos-right k z in
-    div-lt-iff-lt-mul big .1 (rw (mul-comm 4294967296 size) at lt)
-
-pub product-most : (h size : ℕ) → size ≤ 1048576 → h < 4294967296 → h * size ≤ 4294967296 * 1048576
-product-most h size z k = mul-le-mul (let j : h ≤ 4294967296 = omega arith in j) z
-
-pub slot-is : (k : Key) (size a b c r : ℕ) → a ≡ k .file → b ≡ k .«ast_id» → c ≡ k .context
-    → r ≡ (a * 1013904223 + b * 668265263 + c * 374761393) % 4294967296 * size / 4294967296 → r ≡ slotOf k size
-unfolding slotOf
-slot-is k size a b c r ea eb ec e = e ∙ rw (ea, eb, ec)
-
-pub next-on : (s size : ℕ) → s + 1 < size → s + 1 ≡ nextSlot size s
-next-on s size h = simp (lt-ltb _ _ h)
-
-pub next-round : (s size : ℕ) → size ≤ s + 1 → 0 ≡ nextSlot size s
-next-round s size h = simp (le-ltb _ _ h)
-
-pub ruleset slot-cases = (slot-is, next-on, next-round)
 
 -- ---- a search
 
 pub within-key : (t : List ℕ) (w : Layout) (base : ℕ) (slots : List ℕ) (s x : ℕ) → Within t w base slots → x ≡ getD slots s 0 → (x ≡ 0 → ⊥) → base + (x - 1) < keyCount t w
 within-key t w base slots s x W e z = let h = W .at s in omega arith
 
-step-empty : (N : ℕ) (t : List ℕ) (T : ℕ → Bool) (s left : ℕ) → 0 < left → getD t s 0 ≡ 0 → probe N t T s left ≡ Empty s
-unfolding probe
-step-empty N t T s zero h e = absurd (omega arith)
-step-empty N t T s (suc left) h e = rw e
-
-at-found : (x e s : ℕ) (T : ℕ → Bool) (rest : Looked) → x ≡ e → (e ≡ 0 → ⊥) → T (e - 1) ≡ true → atSlot x s T rest ≡ Found (e - 1)
-at-found zero e s T rest q z h = absurd (z (sym q))
-at-found (suc x) e s T rest q z h = let i : e - 1 ≡ x = omega arith in rw i (simp (rw i at h))
-
-at-on : (x e s : ℕ) (T : ℕ → Bool) (rest : Looked) → x ≡ e → (e ≡ 0 → ⊥) → T (e - 1) ≡ false → atSlot x s T rest ≡ rest
-at-on zero e s T rest q z h = absurd (z (sym q))
-at-on (suc x) e s T rest q z h = let i : e - 1 ≡ x = omega arith in simp (rw i at h)
-
-step-found : (N : ℕ) (t : List ℕ) (T : ℕ → Bool) (s left e : ℕ) → 0 < left → getD t s 0 ≡ e → (e ≡ 0 → ⊥) → T (e - 1) ≡ true → probe N t T s left ≡ Found (e - 1)
-unfolding probe
-step-found N t T s zero e h q z g = absurd (omega arith)
-step-found N t T s (suc left) e h q z g = at-found (getD t s 0) e s T (probe N t T (nextSlot N s) left) q z g
-
-step-on : (N : ℕ) (t : List ℕ) (T : ℕ → Bool) (s left e : ℕ) → 0 < left → getD t s 0 ≡ e → (e ≡ 0 → ⊥) → T (e - 1) ≡ false
-    → probe N t T s left ≡ probe N t T (nextSlot N s) (left - 1)
-unfolding probe
-step-on N t T s zero e h q z g = absurd (omega arith)
-step-on N t T s (suc left) e h q z g =
-    let i : suc left - 1 ≡ left = omega arith in
-    rw i (at-on (getD t s 0) e s T (probe N t T (nextSlot N s) left) q z g)
-
-step-full : (N : ℕ) (t : List ℕ) (T : ℕ → Bool) (s left : ℕ) → left ≤ 0 → probe N t T s left ≡ Full
-unfolding probe
-step-full N t T s left h = let i : left ≡ 0 = omega arith in rw i
-
 module _ (key : ℕ → Key) (k : Key) (N : ℕ) (t : List ℕ) (start s left : ℕ) (inv : probe N t (isKey key k) start N ≡ probe N t (isKey key k) s left) where
-  pub look-full : left ≤ 0 → Full ≡ probe N t (isKey key k) start N
-  look-full h = sym (inv ∙ step-full N t (isKey key k) s left h)
+  module _ (h : 0 < left) (e : ℕ) (q : e ≡ getD t s 0) (z : e ≡ 0 → ⊥) (there : Key) (w : there ≡ key (e - 1)) (b : Bool) (a : b ≡ sameKey there k) where
+    here : b ≡ isKey key k (e - 1)
+    unfolding isKey
+    here = a ∙ ap (λ (x : Key). sameKey x k) w
 
-  module _ (h : 0 < left) (e : ℕ) (q : e ≡ getD t s 0) where
-    pub look-empty : e ≡ 0 → Empty s ≡ probe N t (isKey key k) start N
-    look-empty z = sym (inv ∙ step-empty N t (isKey key k) s left h (sym q ∙ z))
+    pub key-found : b ≡ true → Found (e - 1) ≡ probe N t (isKey key k) start N
+    key-found y = look-found N t (isKey key k) start s left inv h e q z b here y
 
-    module _ (z : e ≡ 0 → ⊥) (there : Key) (w : there ≡ key (e - 1)) (b : Bool) (a : b ≡ sameKey there k) where
-      here : b ≡ isKey key k (e - 1)
-      unfolding isKey
-      here = a ∙ ap (λ (x : Key). sameKey x k) w
+    pub key-on : b ≡ false → (s′ : ℕ) → s′ ≡ nextSlot N s → probe N t (isKey key k) start N ≡ probe N t (isKey key k) s′ (left - 1)
+    key-on y s′ n = look-on N t (isKey key k) start s left inv h e q z b here y s′ n
 
-      pub look-found : b ≡ true → Found (e - 1) ≡ probe N t (isKey key k) start N
-      look-found y = sym (inv ∙ step-found N t (isKey key k) s left e h (sym q) z (sym here ∙ y))
-
-      pub look-on : b ≡ false → (s′ : ℕ) → s′ ≡ nextSlot N s → probe N t (isKey key k) start N ≡ probe N t (isKey key k) s′ (left - 1)
-      look-on y s′ n = inv ∙ step-on N t (isKey key k) s left e h (sym q) z (sym here ∙ y) ∙ rw n
-
-pub ruleset look-cases = (within-key, look-full, look-empty, look-found, look-on)
+pub ruleset look-cases = (within-key, look-full, look-empty, key-found, key-on)
 
 -- ---- a key
 

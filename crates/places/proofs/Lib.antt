@@ -1,7 +1,5 @@
-pub mod Cases
 pub mod FindLaw
 pub mod KeyReturns
-pub mod ProbeLaw
 pub mod IndexLaw
 pub mod IndexReturns
 pub mod StreamReturns

@@ -16,11 +16,11 @@ use Rattle.places.specs.Index.{Leads, Finds, Filled}
 use Rattle.places.specs.Places.{Placed, Midway, soFar}
 use Rattle.places.specs.declared.key.Key.{Key}
 use Rattle.places.specs.declared.key.Layout.{Layout}
-use Rattle.places.specs.declared.index.Looked.{Looked}
-use Rattle.places.specs.declared.index.Looked.the-variants.{Found, Empty, Full}
-use Rattle.places.proofs.Cases.{eq-or-ne, kept}
+use Rattle.slots.specs.declared.probe.Looked.{Looked}
+use Rattle.slots.specs.declared.probe.Looked.the-variants.{Found, Empty, Full}
+use Rattle.slots.proofs.Cases.{eq-or-ne, kept}
 use Rattle.places.proofs.FindLaw.{so-far-none, so-far-all, so-far-not, so-far-first, so-far-again}
-use Rattle.places.proofs.ProbeLaw.{found-empty, found-full}
+use Rattle.slots.proofs.ProbeLaw.{found-empty, found-full}
 use Rattle.places.proofs.IndexLaw.{key-is, key-not, lead-once}
 
 -- ---- one place

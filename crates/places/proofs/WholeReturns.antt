@@ -17,12 +17,12 @@ use Rattle.places.specs.Places.{Resolved, Whole}
 use Rattle.places.specs.declared.key.Key.{Key}
 use Rattle.places.specs.declared.key.Layout.{Layout}
 use Rattle.places.specs.declared.key.Layout.the-variants.{Part, Symbol, Open, Close, Name}
-use Rattle.places.specs.declared.index.Looked.{Looked}
-use Rattle.places.specs.declared.index.Looked.the-variants.{Found, Empty, Full}
+use Rattle.slots.specs.declared.probe.Looked.{Looked}
+use Rattle.slots.specs.declared.probe.Looked.the-variants.{Found, Empty, Full}
 use Rattle.places.specs.declared.whole.Indices.{Indices}
-use Rattle.places.proofs.Cases.{eq-or-ne, kept}
+use Rattle.slots.proofs.Cases.{eq-or-ne, kept}
 use Rattle.places.proofs.FindLaw.{find-same}
-use Rattle.places.proofs.ProbeLaw.{found-empty, found-full}
+use Rattle.slots.proofs.ProbeLaw.{found-empty, found-full}
 use Rattle.places.proofs.IndexLaw.{same-eq, key-not, lead-first}
 use Rattle.places.proofs.TreeLaw.{tree-raw}
 

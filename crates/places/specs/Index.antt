@@ -1,43 +1,25 @@
--- A hash index of keys: slot s holds 0, or one more than a key's number; a key is looked for from its slot on, round the end.
-use Prim.Native.Nat.{ℕ, zero, suc, _+_, _*_, _-_, _/_, _%_, _<_, _≤_}
-use mathlib.Core.Bool.{Bool, true, false}
+-- A hash index of keys: of those that are alike the first is entered.
+use Prim.Native.Nat.{ℕ, _+_, _-_, _/_, _<_, _≤_}
 use mathlib.Core.Path.{_≡_}
-use mathlib.Core.List.{List, [], _∷_}
+use mathlib.Core.List.{List}
 use lib.ListN.{length, getD}
-use lib.Dec.{ltb, eqb}
-use Rattle.format.specs.Test.{if_then_else_}
+use lib.Dec.{eqb}
 use Rattle.format.specs.Writer.{find}
 use Rattle.places.specs.Key.{isKey, keyAt, keyCount, shift}
 use Rattle.places.specs.declared.key.Key.{Key}
 use Rattle.places.specs.declared.key.Layout.{Layout}
-use Rattle.places.specs.declared.index.Looked.{Looked}
-use Rattle.places.specs.declared.index.Looked.the-variants.{Found, Empty, Full}
+use Rattle.slots.specs.Hash.{mixOf}
+use Rattle.slots.specs.Probe.{probe, occupied}
+use Rattle.slots.specs.declared.probe.Looked.{Looked}
+use Rattle.slots.specs.declared.probe.Looked.the-variants.{Found}
 
--- a hash of three words, scaled to the number of slots
+-- the slot where a key is looked for first
 unfoldable pub slotOf : Key → ℕ → ℕ
-slotOf k size = (k .file * 1013904223 + k .«ast_id» * 668265263 + k .context * 374761393) % 4294967296 * size / 4294967296
-
-abbrev pub nextSlot : ℕ → ℕ → ℕ
-nextSlot size s = if ltb (s + 1) size then s + 1 else 0
-
-abbrev pub atSlot : ℕ → ℕ → (ℕ → Bool) → Looked → Looked
-atSlot zero s test rest = Empty s
-atSlot (suc e) s test rest = if test e then Found e else rest
-
--- the first slot of so many from s on that is empty or whose key passes the test
-unfoldable pub probe : ℕ → List ℕ → (ℕ → Bool) → ℕ → ℕ → Looked
-probe size t test s zero = Full
-probe size t test s (suc left) = atSlot (getD t s 0) s test (probe size t test (nextSlot size s) left)
+slotOf k size = mixOf (k .file) (k .«ast_id») (k .context) size
 
 -- the search for a key, from a slot on
 abbrev pub probeFor : (ℕ → Key) → Key → List ℕ → ℕ → ℕ → Looked
 probeFor key k slots start left = probe (length slots) slots (isKey key k) start left
-
--- how many slots hold a key
-unfoldable pub occupied : List ℕ → ℕ
-occupied [] = 0
-occupied (zero ∷ t) = occupied t
-occupied (suc e ∷ t) = suc (occupied t)
 
 -- of the keys 0 to g - 1, one that has none of its like before it
 pub record Leads (key : ℕ → Key) (g r : ℕ) : Type 0 where

@@ -3,62 +3,22 @@ use crate::key::Key;
 use crate::key::Layout;
 use crate::key::key_from;
 use crate::key::same_key;
+use slots::hash::mix;
+use slots::probe::Looked;
+use slots::probe::next_slot;
+use slots::probe::size;
 ghost use mathlib.Core.Path.{_≡_};
-ghost use Prim.Native.Nat.{_+_, _*_, _-_, _/_, _<_, _≤_};
+ghost use Prim.Native.Nat.{_+_, _<_, _≤_};
 ghost use lib.ListN.{length};
 ghost use Rattle.places.specs.Key.{keyAt, keyCount, shift};
-ghost use Rattle.places.specs.Index.{slotOf, nextSlot, probeFor, portion, Held, Loaded, Within, Finds, Filled};
-
-pub enum Looked {
-    // A key's number.
-    Found(usize),
-    // A slot.
-    Empty(usize),
-    Full,
-}
-
-pub fn size(x: u32) -> usize
-    ensures { λ r. ⌜ (r ≡ x) × (r < 4294967296) ⌝ }
-{
-    x as usize
-}
-
-fn wide_word(x: u32) -> u64
-    ensures { λ r. ⌜ (r ≡ x) × (r < 4294967296) ⌝ }
-{
-    x as u64
-}
-
-// h of 2^32, taken of the slots.
-fn scaled(h: u64, slots: usize) -> usize
-    requires { ⌜ (0 < slots) × (slots ≤ 1048576) × (h < 4294967296) ⌝ }
-    ensures { λ r. ⌜ (r ≡ h * slots / 4294967296) × (r < slots) ⌝ }
-{
-    (h as usize) * slots / 4294967296
-}
+ghost use Rattle.places.specs.Index.{slotOf, probeFor, portion, Held, Loaded, Within, Finds, Filled};
 
 // The slot where a key is looked for first.
 fn slot_of(k: Key, slots: usize) -> usize
     requires { ⌜ (0 < slots) × (slots ≤ 1048576) ⌝ }
     ensures { λ r. ⌜ (r ≡ slotOf k slots) × (r < slots) ⌝ }
 {
-    let a = wide_word(k.file);
-    let b = wide_word(k.ast_id);
-    let c = wide_word(k.context);
-    scaled(
-        (a * 1013904223 + b * 668265263 + c * 374761393) % 4294967296,
-        slots,
-    )
-}
-
-fn next_slot(s: usize, slots: usize) -> usize
-    requires { ⌜ s < slots ⌝ }
-    ensures { λ r. ⌜ (r ≡ nextSlot slots s) × (r < slots) ⌝ }
-{
-    if s + 1 < slots {
-        return s + 1;
-    }
-    0
+    mix(k.file, k.ast_id, k.context, slots)
 }
 
 // Looks for a key from a slot on, among the keys of t from `base` on.
@@ -133,7 +93,7 @@ fn enter_all(t: &[u32], layout: Layout, base: usize, slots: &mut [u32], g: usize
     }
 }
 
-pub fn fill(t: &mut [u32], v: u32)
+pub(crate) fn fill(t: &mut [u32], v: u32)
     ensures { λ _. ⌜ Filled v (length (now (t .entry))) (now (t .exit)) ⌝ }
 {
     let mut i: usize = 0;

@@ -34,7 +34,7 @@ fn words_key(t: &[u32], at: usize) -> Key
     }
 }
 
-pub fn symbol_key(y: u32) -> Key
+pub(crate) fn symbol_key(y: u32) -> Key
     ensures { λ r. ⌜ r ≡ symbolKey y ⌝ }
 {
     Key {
@@ -100,7 +100,7 @@ pub(crate) fn key_from(t: &[u32], layout: Layout, base: usize, i: usize) -> Key
     key_at(t, layout, base + i)
 }
 
-pub fn same_key(x: Key, y: Key) -> bool
+pub(crate) fn same_key(x: Key, y: Key) -> bool
     ensures { λ r. ⌜ r ≡ sameKey x y ⌝ }
 {
     if x.file != y.file {
@@ -116,7 +116,7 @@ pub fn same_key(x: Key, y: Key) -> bool
 }
 
 // Whether a tree of this sort has a symbol: an ident or a literal.
-pub fn is_named(sort: u32) -> bool
+pub(crate) fn is_named(sort: u32) -> bool
     ensures { λ r. ⌜ r ≡ named sort ⌝ }
 {
     if sort == 1 {

@@ -1,13 +1,13 @@
 // A table too large for its slots: the keys of the trees are indexed instead, and the table is read through once.
-use crate::index::Looked;
 use crate::index::fill;
 use crate::index::find_key;
 use crate::index::load;
 use crate::index::portion_of;
-use crate::index::size;
 use crate::key::Layout;
 use crate::key::key_at;
 use crate::key::key_from;
+use slots::probe::Looked;
+use slots::probe::size;
 ghost use mathlib.Core.Path.{_≡_};
 ghost use Prim.Native.Nat.{_+_, _-_, _<_, _≤_};
 ghost use lib.Dec.{eqb};

@@ -1,5 +1,4 @@
 // Trees whose two tables are both indexed whole: all their indices in one pass.
-use crate::index::Looked;
 use crate::index::find_key;
 use crate::key::Key;
 use crate::key::Layout;
@@ -7,6 +6,7 @@ use crate::key::is_named;
 use crate::key::key_at;
 use crate::key::same_key;
 use crate::key::symbol_key;
+use slots::probe::Looked;
 ghost use mathlib.Core.Path.{_≡_};
 ghost use mathlib.Core.Bool.{true};
 ghost use Prim.Native.Nat.{_+_, _-_, _/_, _<_, _≤_};

@@ -25,13 +25,14 @@ use Rattle.tree.specs.Refusal.{verdictAnswer}
 use Rattle.tree.specs.declared.refusal.Refusal.{Refusal}
 use Rattle.tree.specs.declared.refusal.Verdict.{Verdict}
 use Rattle.tree.specs.declared.refusal.Verdict.the-variants as verdicts
-use Rattle.tables.specs.Keys.{placeIn}
-use Rattle.tables.specs.Runs.{Room, Made}
-use Rattle.tables.specs.Count.{ample}
+use Rattle.keys.specs.Keys.{placeIn}
+use Rattle.keys.specs.Runs.{Room}
+use Rattle.entries.specs.Runs.{Made}
+use Rattle.distinct.specs.Count.{ample}
 use Rattle.tables.specs.Made.{tablesAnswer, PartsMade, TablesDone}
 use Rattle.tables.specs.declared.make.TablesReport.{TablesReport}
 use Rattle.tables.specs.declared.make.TablesReport.the-variants as answers
-use Rattle.tables.proofs.TableLaw.{words-length}
+use Rattle.entries.proofs.TableLaw.{words-length}
 
 -- ---- the root's two parts
 
@@ -125,13 +126,14 @@ module _ (l a b c d : List ℕ) (e : listRows l ≡ passed) where
         made-complete l (length a) (length b) (length c) (length d) e
         (record { parts = omega (arith, s .0, f .0); partTallies = omega (arith, s .1, f .1); symbols = omega (arith, s .2, g .0); symbolTallies = omega (arith, s .3, g .1) })
 
-    pub both-made : (p s : ℕ) (a′ b′ c′ d′ : List ℕ) → PartsMade l p a a′ b b′ → Made l true s c c′ d d′ → TablesDone l a b c d (answers.Made p s) a′ b′ c′ d′
+    pub both-made : (p s x y : ℕ) (a′ b′ c′ d′ : List ℕ) → PartsMade l p a a′ b b′ → Made l true s c c′ d d′ → x ≡ p → y ≡ s
+        → TablesDone l a b c d (answers.Made x y) a′ b′ c′ d′
     unfolding tablesAnswer symbolTable symbolCounts
-    both-made p s a′ b′ c′ d′ P S =
+    both-made p s x y a′ b′ c′ d′ P S i j =
         let v = passes in
         let n : s ≡ length (symbolTable l) = S .number ∙ sym (sizes .2) in
         record {
-          answer = rw v (ap₂ answers.Made (P .number) n);
+          answer = rw v (ap₂ answers.Made (i ∙ P .number) (j ∙ n));
           runs = record {
             verdict = refl;
             parts = P .words ∙ rw v;
@@ -180,7 +182,7 @@ module _ (l a b c d : List ℕ) (e : listRows l ≡ passed) where
 pub told : (x b : Bool) → b ≡ x → b ≡ true → x ≡ true
 told x b e h = sym e ∙ h
 
-pub ruleset make-cases = (told, rows-fit, both-made, parts-6, symbols-6)
+pub ruleset make-cases = (told, rows-fit, parts-6, symbols-6)
 
 -- ---- rows 1 to 4
 

@@ -1,8 +1,8 @@
 // The tables of a list, made in lent runs.
-use crate::count::has_room;
-use crate::keys::get_at;
-use crate::keys::set_at;
-use crate::table::make_table;
+use distinct::count::has_room;
+use entries::table::make_table;
+use keys::run::get_at;
+use keys::run::set_at;
 use list::rows::list_rows;
 use tree::refusal::Refusal;
 use tree::refusal::Verdict;
@@ -15,7 +15,7 @@ ghost use lib.Seq.{sets};
 ghost use Rattle.format.specs.Verdict.{passed};
 ghost use Rattle.format.specs.WordList.{listRows};
 ghost use Rattle.format.specs.MakeTables.{keyCount, keysOf, rootParts};
-ghost use Rattle.tables.specs.Count.{ample};
+ghost use Rattle.distinct.specs.Count.{ample};
 ghost use Rattle.tables.specs.Made.{PartsMade, TablesDone};
 
 pub enum TablesReport {

@@ -2,15 +2,15 @@ use Prim.Native.Nat.{_<_}
 use mathlib.Core.Path.{_≡_}
 use lib.ListN.{length}
 use Rattle.places.specs.Key.{keyAt, shift, isKey}
-use Rattle.places.specs.Index.{probe}
+use Rattle.slots.specs.Probe.{probe}
 use borrow.Author.Needs.{needs}
 use Rattle.places.proofs.IndexReturns.{look-cases}
 use Rattle.places.proofs.index.look.Statement.{statement}
 use Rattle.places.proofs.index.look.Tie as tie
 use Rattle.places.proofs.index.look.Reads as reads
 use Rattle.places.proofs.index.look.Lts as lts
-use Rattle.places.proofs.index.next_slot.Reads as next-slot-reads
-use Rattle.places.proofs.index.size.Reads as size-reads
+use Rattle.slots.proofs.probe.next_slot.Reads as next-slot-reads
+use Rattle.slots.proofs.probe.size.Reads as size-reads
 use Rattle.places.proofs.key.key_from.Reads as key-from-reads
 use Rattle.places.proofs.key.same_key.Reads as same-key-reads
 

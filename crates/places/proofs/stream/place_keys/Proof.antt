@@ -4,7 +4,7 @@ use lib.ListN.{length}
 use Rattle.places.specs.Places.{Placed}
 use borrow.Author.Needs.{needs}
 use Rattle.places.proofs.StreamReturns.{run-cases}
-use Rattle.places.proofs.Cases.{kept}
+use Rattle.slots.proofs.Cases.{kept}
 use Rattle.places.proofs.stream.place_keys.Statement.{statement}
 use Rattle.places.proofs.stream.place_keys.Tie as tie
 use Rattle.places.proofs.stream.place_keys.Reads as reads

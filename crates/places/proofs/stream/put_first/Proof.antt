@@ -4,7 +4,7 @@ use Rattle.places.proofs.stream.put_first.Statement.{statement}
 use Rattle.places.proofs.stream.put_first.Tie as tie
 use Rattle.places.proofs.stream.put_first.Reads as reads
 use Rattle.places.proofs.stream.put_first.Lts as lts
-use Rattle.places.proofs.index.size.Reads as size-reads
+use Rattle.slots.proofs.probe.size.Reads as size-reads
 
 -- src/stream.rt:25:17
 add-size : tie.Need-add-size

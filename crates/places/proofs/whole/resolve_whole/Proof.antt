@@ -4,7 +4,7 @@ use lib.ListN.{length}
 use Rattle.places.specs.Places.{Resolved}
 use borrow.Author.Needs.{needs}
 use Rattle.places.proofs.WholeReturns.{resolve-whole-cases}
-use Rattle.places.proofs.Cases.{kept}
+use Rattle.slots.proofs.Cases.{kept}
 use Rattle.places.proofs.whole.resolve_whole.Statement.{statement}
 use Rattle.places.proofs.whole.resolve_whole.Tie as tie
 use Rattle.places.proofs.whole.resolve_whole.Reads as reads

@@ -7,43 +7,33 @@ use Rattle.tables.proofs.make.compute_span_frequencies_and_symbols.Lts 
 use Rattle.list.proofs.rows.list_rows.Reads as list-rows-reads
 use Rattle.tables.proofs.make.make_if_room.Reads as make-if-room-reads
 
--- src/make.rt:105:11
 list-rows-requires : tie.Need-list-rows-requires
 list-rows-requires c κs = search (needs, report-cases)
 
--- src/make.rt:106:44
 enum-told : tie.Need-enum-told
 enum-told c = search (needs, report-cases)
 
--- src/make.rt:106:28
 make-if-room-requires : tie.Need-make-if-room-requires
 make-if-room-requires c κs = search (needs, report-cases)
 
--- src/make.rt:107:26
 enum-known-why : tie.Need-enum-known-why
 enum-known-why c = search (needs, report-cases)
 
--- src/make.rt:95:1
 same-length : tie.Need-same-length
 same-length c = search (needs, report-cases)
 
--- src/make.rt:95:1
 same-length-2 : tie.Need-same-length-2
 same-length-2 c = search (needs, report-cases)
 
--- src/make.rt:95:1
 same-length-3 : tie.Need-same-length-3
 same-length-3 c = search (needs, report-cases)
 
--- src/make.rt:95:1
 same-length-4 : tie.Need-same-length-4
 same-length-4 c = search (needs, report-cases)
 
--- src/make.rt:95:1
 returns : tie.Need-returns
 returns c = search (needs, report-cases)
 
--- src/make.rt:95:1
 returns-2 : tie.Need-returns-2
 returns-2 c = search (needs, report-cases)
 

@@ -4,46 +4,36 @@ use Rattle.tables.proofs.make.make_if_room.Statement.{statement}
 use Rattle.tables.proofs.make.make_if_room.Tie as tie
 use Rattle.tables.proofs.make.make_if_room.Reads as reads
 use Rattle.tables.proofs.make.make_if_room.Lts as lts
-use Rattle.tables.proofs.count.has_room.Reads as has-room-reads
+use Rattle.distinct.proofs.count.has_room.Reads as has-room-reads
 use Rattle.tables.proofs.make.make_both.Reads as make-both-reads
 
--- src/make.rt:86:8
 has-room-requires : tie.Need-has-room-requires
 has-room-requires c κs = (search (needs, make-cases), search (needs, make-cases))
 
--- src/make.rt:87:12
 has-room-requires-2 : tie.Need-has-room-requires-2
 has-room-requires-2 c κs = (search (needs, make-cases), search (needs, make-cases))
 
--- src/make.rt:88:13
 make-both-requires : tie.Need-make-both-requires
 make-both-requires c κs = (search (needs, make-cases), (search (needs, make-cases), search (needs, make-cases)))
 
--- src/make.rt:88:13
 same-length : tie.Need-same-length
 same-length c = search (needs, make-cases)
 
--- src/make.rt:88:13
 same-length-2 : tie.Need-same-length-2
 same-length-2 c = search (needs, make-cases)
 
--- src/make.rt:88:13
 same-length-3 : tie.Need-same-length-3
 same-length-3 c = search (needs, make-cases)
 
--- src/make.rt:88:13
 same-length-4 : tie.Need-same-length-4
 same-length-4 c = search (needs, make-cases)
 
--- src/make.rt:88:13
 returns : tie.Need-returns
 returns c = search (needs, make-cases)
 
--- src/make.rt:90:9
 returns-2 : tie.Need-returns-2
 returns-2 c = search (needs, make-cases)
 
--- src/make.rt:75:1
 returns-3 : tie.Need-returns-3
 returns-3 c = search (needs, make-cases)
 

@@ -5,33 +5,26 @@ use Rattle.tables.proofs.make.make_parts.Tie as tie
 use Rattle.tables.proofs.make.make_parts.Reads as reads
 use Rattle.tables.proofs.make.make_parts.Lts as lts
 use Rattle.tables.proofs.make.put_root.Reads as put-root-reads
-use Rattle.tables.proofs.table.make_table.Reads as make-table-reads
+use Rattle.entries.proofs.table.make_table.Reads as make-table-reads
 
--- src/make.rt:50:9
 make-table-requires : tie.Need-make-table-requires
 make-table-requires c κs = search (needs, parts-cases)
 
--- src/make.rt:51:24
 mul-put-root : tie.Need-mul-put-root
 mul-put-root c = search (needs, parts-cases)
 
--- src/make.rt:51:5
 put-root-requires : tie.Need-put-root-requires
 put-root-requires c κs = search (needs, parts-cases)
 
--- src/make.rt:52:5
 add-result : tie.Need-add-result
 add-result c = search (needs, parts-cases)
 
--- src/make.rt:46:1
 same-length : tie.Need-same-length
 same-length c = search (needs, parts-cases)
 
--- src/make.rt:46:1
 same-length-2 : tie.Need-same-length-2
 same-length-2 c = search (needs, parts-cases)
 
--- src/make.rt:46:1
 returns : tie.Need-returns
 returns c = search (needs, parts-cases)
 

@@ -4,50 +4,39 @@ use Rattle.tables.proofs.make.put_root.Statement.{statement}
 use Rattle.tables.proofs.make.put_root.Tie as tie
 use Rattle.tables.proofs.make.put_root.Reads as reads
 use Rattle.tables.proofs.make.put_root.Lts as lts
-use Rattle.tables.proofs.keys.get_at.Reads as get-at-reads
+use Rattle.keys.proofs.run.get_at.Reads as get-at-reads
 use Rattle.tables.proofs.make.put_three.Reads as put-three-reads
 
--- src/make.rt:41:24
 get-at-requires : tie.Need-get-at-requires
 get-at-requires c κs = search (needs, root-cases)
 
--- src/make.rt:41:38
 get-at-requires-2 : tie.Need-get-at-requires-2
 get-at-requires-2 c κs = search (needs, root-cases)
 
--- src/make.rt:41:52
 get-at-requires-3 : tie.Need-get-at-requires-3
 get-at-requires-3 c κs = search (needs, root-cases)
 
--- src/make.rt:41:5
 put-three-requires : tie.Need-put-three-requires
 put-three-requires c κs = search (needs, root-cases)
 
--- src/make.rt:42:20
 add-put-three : tie.Need-add-put-three
 add-put-three c = search (needs, root-cases)
 
--- src/make.rt:42:28
 get-at-requires-4 : tie.Need-get-at-requires-4
 get-at-requires-4 c κs = search (needs, root-cases)
 
--- src/make.rt:42:42
 get-at-requires-5 : tie.Need-get-at-requires-5
 get-at-requires-5 c κs = search (needs, root-cases)
 
--- src/make.rt:42:56
 get-at-requires-6 : tie.Need-get-at-requires-6
 get-at-requires-6 c κs = search (needs, root-cases)
 
--- src/make.rt:42:5
 put-three-requires-2 : tie.Need-put-three-requires-2
 put-three-requires-2 c κs = search (needs, root-cases)
 
--- src/make.rt:37:1
 same-length : tie.Need-same-length
 same-length c = search (needs, root-cases)
 
--- src/make.rt:37:1
 returns : tie.Need-returns
 returns c = search (needs, root-cases)
 

@@ -4,33 +4,26 @@ use Rattle.tables.proofs.make.put_three.Statement.{statement}
 use Rattle.tables.proofs.make.put_three.Tie as tie
 use Rattle.tables.proofs.make.put_three.Reads as reads
 use Rattle.tables.proofs.make.put_three.Lts as lts
-use Rattle.tables.proofs.keys.set_at.Reads as set-at-reads
+use Rattle.keys.proofs.run.set_at.Reads as set-at-reads
 
--- src/make.rt:31:5
 set-at-requires : tie.Need-set-at-requires
 set-at-requires c κs = search (needs, root-cases)
 
--- src/make.rt:32:17
 add-set-at : tie.Need-add-set-at
 add-set-at c = search (needs, root-cases)
 
--- src/make.rt:32:5
 set-at-requires-2 : tie.Need-set-at-requires-2
 set-at-requires-2 c κs = search (needs, root-cases)
 
--- src/make.rt:33:17
 add-set-at-2 : tie.Need-add-set-at-2
 add-set-at-2 c = search (needs, root-cases)
 
--- src/make.rt:33:5
 set-at-requires-3 : tie.Need-set-at-requires-3
 set-at-requires-3 c κs = search (needs, root-cases)
 
--- src/make.rt:27:1
 same-length : tie.Need-same-length
 same-length c = search (needs, root-cases)
 
--- src/make.rt:27:1
 returns : tie.Need-returns
 returns c = search (needs, root-cases)
 

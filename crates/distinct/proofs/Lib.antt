@@ -1,0 +1,9 @@
+pub mod GatherLaw
+pub mod GatherReturns
+pub mod SelectLaw
+pub mod SelectReturns
+pub mod Amounts
+pub mod ScanReturns
+pub mod ClassLaw
+pub mod ClassReturns
+pub mod CountReturns

@@ -1,0 +1,5 @@
+pub mod TableLaw
+pub mod TableReturns
+pub mod SettleLaw
+pub mod SettleReturns
+pub mod LargeReturns

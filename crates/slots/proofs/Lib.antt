@@ -1,0 +1,4 @@
+pub mod Cases
+pub mod HashLaw
+pub mod ProbeLaw
+pub mod LookLaw
