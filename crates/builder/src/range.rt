@@ -13,7 +13,7 @@ ghost use Rattle.tree.specs.declared.types.TokenTree.the-variants as trees;
 ghost use Rattle.tree.specs.declared.types.Leaf.the-variants as leaves;
 ghost use Rattle.builder.specs.Given.{wordsOf};
 
-pub fn span_fits(span: Span) -> bool
+pub(crate) fn span_fits(span: Span) -> bool
     ensures { λ r. ⌜ r ≡ rangeFits (wordsOf span) ⌝ }
 {
     if 4294967295 - span.start < span.len {
@@ -50,7 +50,7 @@ fn literal_fits(p: Literal) -> bool
     true
 }
 
-pub fn leaf_fits(leaf: Leaf) -> bool
+pub(crate) fn leaf_fits(leaf: Leaf) -> bool
     ensures { λ r. ⌜ r ≡ tokenFits (trees.Leaf leaf) ⌝ }
 {
     match leaf {
@@ -61,7 +61,7 @@ pub fn leaf_fits(leaf: Leaf) -> bool
 }
 
 // The words of a subtree that holds nothing yet.
-pub fn subtree_words(kind: u32, opening: Span, closing: Span) -> [u32; 13]
+pub(crate) fn subtree_words(kind: u32, opening: Span, closing: Span) -> [u32; 13]
     ensures { λ r. ⌜ r ≡ subtreeWords 0 kind (wordsOf opening) (wordsOf closing) ⌝ }
 {
     [
