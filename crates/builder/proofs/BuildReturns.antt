@@ -4,10 +4,10 @@ use mathlib.Core.Bool.{Bool, true, false, not}
 use mathlib.Core.Path.{_≡_, sym, ap, _∙_, subst}
 use mathlib.Core.List.{List, [], _++_}
 use native.Mathlib.Omega.{arith}
-use borrow.Author.Tests.{le-leb, lt-leb, eq-eqb, ne-eqb, not-true, not-false, eqb-true}
+use borrow.Author.Tests.{le-leb, lt-leb, eq-eqb, ne-eqb, not-true, not-false}
 use lib.Dec.{eqb}
 use lib.ListN.{length, getD, take, drop}
-use lib.Seq.{length-take-le, getD-take, take-add, drop-at}
+use lib.Seq.{length-take-le, take-add, drop-at}
 use Rattle.format.specs.Test.{if_then_else_}
 use Rattle.format.specs.Verdict.{passed, refused}
 use Rattle.format.specs.WordList.{listCount}
@@ -15,7 +15,6 @@ use Rattle.format.specs.Holding.{holdingAll}
 use Rattle.format.specs.Builder.{subAt, disagrees, ready, oneInside, buildList, innerList, written, build, buildSkipTopSubtree}
 use Rattle.format.specs.Builder as format
 use Rattle.format.proofs.Each.{and-left, rule-passed}
-use Rattle.format.proofs.Holding.{build-holds}
 use Rattle.format.proofs.BuilderRestore.{Agrees, agrees-is}
 use Rattle.tree.specs.Refusal.{verdictAnswer, reportAnswer}
 use Rattle.tree.specs.declared.refusal.Refusal.{Refusal}
@@ -104,9 +103,6 @@ module _ (b : Builder) (l parts symbols work out : List ℕ) (v : Answer) (e : v
     pub ready-inside : b .count ≤ listCount l
     ready-inside = agree .inRun
 
-    pub ready-root : getD l 0 0 ≡ 3
-    ready-root = eqb-true (getD l 0 0) 3 (agree .rooted)
-
     module _ (m : ℕ) (c : m ≡ b .count) where
       pub ready-end : 13 ≤ 13 * m
       ready-end = let a = agree .some in omega arith
@@ -119,11 +115,9 @@ module _ (b : Builder) (l parts symbols work out : List ℕ) (v : Answer) (e : v
         made : (q : List ℕ) (w : format.Built) → w ≡ written parts symbols work out q → Written parts symbols q work out r work′ out′ → Made w r work′ out′
         made q w f h = rw f (record { answer = h .answer; works = h .works; outs = h .outs })
 
-        whole-is : holdingAll (take (13 * m) l) ≡ buildList l (seen b)
-        whole-is = ap (λ (i : ℕ). holdingAll (take (13 * i) l)) c ∙ build-holds l (seen b) (agree .some) (agree .inRun)
-
         of-whole : Written parts symbols (holdingAll (take (13 * m) l)) work out r work′ out′ → Written parts symbols (buildList l (seen b)) work out r work′ out′
-        of-whole h = subst (λ (q : List ℕ). Written parts symbols q work out r work′ out′) whole-is h
+        unfolding buildList
+        of-whole h = subst (λ (i : ℕ). Written parts symbols (holdingAll (take (13 * i) l)) work out r work′ out′) c h
 
         pub build-made : Written parts symbols (holdingAll (take (13 * m) l)) work out r work′ out′ → Built b l parts symbols work out r work′ out′
         build-made h = let n = yes in made (buildList l (seen b)) (build parts symbols work out l (seen b)) (rw n) (of-whole h)
@@ -143,20 +137,14 @@ module _ (b : Builder) (l parts symbols work out : List ℕ) (v : Answer) (e : v
               let q : oneInside l (seen b) ≡ false = sym f ∙ g in
               made (buildList l (seen b)) (buildSkipTopSubtree parts symbols work out l (seen b)) (simp (n, q)) (of-whole h)
 
-pub ruleset build-cases = (build-refused, skip-refused, ready-inside, ready-root, ready-end, ready-room, build-made, skip-inner, skip-whole)
+pub ruleset build-cases = (build-refused, skip-refused, ready-inside, ready-end, ready-room, build-made, skip-inner, skip-whole)
 
 -- ---- the writer over a part of the run
 
+pub front-length : (l : List ℕ) (end : ℕ) → end ≤ length l → end ≡ length (take end l)
+front-length l end k = sym (length-take-le end l k)
+
 module _ (l : List ℕ) (end : ℕ) (h : 13 ≤ end) (k : end ≤ length l) where
-  pub front-some : 1 ≤ listCount (take end l)
-  front-some = let e = length-take-le end l k in omega arith
-
-  pub front-root : getD l 0 0 ≡ 3 → getD (take end l) 0 0 ≡ 3
-  front-root r = getD-take end l 0 0 (omega arith) ∙ r
-
-  pub front-length : end ≡ length (take end l)
-  front-length = sym (length-take-le end l k)
-
   -- a part without the first tree is the front without it
   part-is : take (end - 13) (drop 13 l) ≡ drop 13 (take end l)
   part-is =
@@ -168,4 +156,4 @@ module _ (l : List ℕ) (end : ℕ) (h : 13 ≤ end) (k : end ≤ length l) wher
       → Written p s (drop 13 (take end l)) work out r work′ out′
   inner-written p s work out r work′ out′ h = subst (λ (q : List ℕ). Written p s q work out r work′ out′) part-is h
 
-pub ruleset front-cases = (front-some, front-root, front-length, inner-written)
+pub ruleset front-cases = (front-length, inner-written)

@@ -11,7 +11,7 @@ use writer::write::encode_list;
 ghost use mathlib.Core.Path.{_≡_};
 ghost use mathlib.Core.List.{[]};
 ghost use Prim.Native.Nat.{_≤_};
-ghost use lib.ListN.{length, getD, take, drop};
+ghost use lib.ListN.{length, take, drop};
 ghost use Rattle.format.specs.Holding.{holdingAll};
 ghost use Rattle.format.specs.WordList.{listCount};
 ghost use Rattle.format.specs.Builder.{ready, oneInside};
@@ -59,7 +59,7 @@ fn write_holding(
     work: &mut [u32],
     out: &mut [u8],
 ) -> Report
-    requires { ⌜ (13 ≤ end) × (end ≤ length (now list)) × (getD (now list) 0 0 ≡ 3) ⌝ }
+    requires { ⌜ end ≤ length (now list) ⌝ }
     ensures { λ r. ⌜ Written (now (parts .entry)) (now (symbols .entry)) (holdingAll (take end (now (list .entry))))
         (now (work .entry)) (now (out .entry)) r (now (work .exit)) (now (out .exit)) ⌝ }
 {

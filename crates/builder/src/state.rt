@@ -63,7 +63,7 @@ fn open_fit(list: &[u32], count: u32, depth: usize, opened: &[u32; 256]) -> bool
     true
 }
 
-pub fn disagrees(list: &[u32], count: u32, depth: usize, opened: &[u32; 256]) -> bool
+pub(crate) fn disagrees(list: &[u32], count: u32, depth: usize, opened: &[u32; 256]) -> bool
     ensures { λ r. ⌜ r ≡ disagrees (now (list .entry)) (stateOf count depth (now (opened .entry))) ⌝ }
 {
     if count == 0 {

@@ -25,7 +25,7 @@ ghost use Rattle.builder.specs.Given.{wordsOf, pushed};
 ghost use Rattle.builder.specs.Taken.{noneOpen, Begun, Taken};
 
 // Row `number` at a tree.
-pub fn refused(number: u32, tree: u32) -> Verdict
+pub(crate) fn refused(number: u32, tree: u32) -> Verdict
     ensures { λ r. ⌜ r ≡ verdictAnswer (refused number tree) ⌝ }
 {
     Verdict::Refused(Refusal {

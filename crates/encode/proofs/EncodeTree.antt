@@ -6,16 +6,17 @@ use mathlib.Core.List.{List, [], _∷_}
 use native.Mathlib.Omega.{arith}
 use borrow.Author.Tests.{le-leb, lt-leb, leb-true, ltb-true, not-true, not-false}
 use lib.Dec.{leb, eqb}
-use lib.ListN.{length}
+use lib.ListN.{length, length-append}
 use Rattle.format.specs.Test.{if_then_else_}
 use Rattle.format.specs.Verdict.{passed, _andThen_, rule}
 use Rattle.format.specs.Word.{put}
 use Rattle.format.specs.Span.{Span}
 use Rattle.format.specs.Tree.{Raw, subtree}
 use Rattle.format.specs.Fields.{spanFits, isScalar, isRawKind, fields}
-use Rattle.format.specs.Write.{join, heavyBytes, spanBytes, symbolBytes, rootBytes, treeBytes}
+use Rattle.format.specs.Write.{join, spanBytes, symbolBytes, rootBytes, treeBytes}
 use Rattle.format.specs.Pack.{roomFor}
 use Rattle.format.proofs.Each.{both, rule-passed, and-left, and-right, and₃, and₄}
+use Rattle.format.proofs.WriteSize.{heavy-size}
 use Rattle.pack.specs.Answer.{spanOf, packedAnswer}
 use Rattle.pack.specs.declared.Packed.the-variants.{Written, Refused}
 use Rattle.tree.specs.Raw.{rawOf, punctRaw, identRaw, literalRaw, subtreeRaw}
@@ -82,8 +83,11 @@ module _ (b : List ℕ) (at m : ℕ) (t : Raw) (kids : ℕ) (y : Bool) (e : y �
 
 -- the root takes 33 bytes
 pub root-33 : (s t : Span) (n d k : ℕ) → 33 ≡ length (treeBytes 0 (subtree s t n d) k)
-unfolding treeBytes rootBytes heavyBytes
-root-33 s t n d k = refl
+unfolding treeBytes rootBytes
+root-33 s t n d k =
+    let a = heavy-size 0 s in
+    let b = heavy-size 0 t in
+    simp length-append (omega arith)
 
 pub ruleset answer-cases = (room-past, room-short, room-there, tree-2, tree-8, tree-6, tree-passes, tree-written, root-33)
 

@@ -9,7 +9,6 @@ use lib.Dec.{eqb}
 use lib.ListN.{length, take, drop, getD}
 use Rattle.format.specs.Test.{if_then_else_}
 use Rattle.format.specs.Verdict.{passed, _andThen_, rule, each}
-use Rattle.format.specs.Word.{put}
 use Rattle.format.specs.Plain.{Listing, endOf, sub}
 use Rattle.format.specs.Nest.{nest}
 use Rattle.format.specs.Buffer.{wordShape}
@@ -17,11 +16,12 @@ use Rattle.format.specs.Tables.{ownTables}
 use Rattle.format.specs.WordList.{wordOf, thirteen, wordFields, listCount, given, listSized, rowTwo, listRules, listRows}
 use Rattle.format.specs.Writer.{rowFive, listVerdict}
 use Rattle.format.specs.Root.{WordSpan, fiveWords}
+use Rattle.format.specs.Holding.{holdingAll}
 use Rattle.format.specs.Builder.{Builder, subtreeWords, wordIn, subAt, endAt, disagrees, new, Step, builderRun, builderFrom, isAmong, buildList, innerList, oneInside, skipList, ready, written, ifReady, build, buildSkipTopSubtree}
 use Rattle.format.specs.Frames.{Trees, flat, Frame, Model, whole, begun, laid, modelRun, newModel, modelList, modelFrom, isOne, modelSkip}
 use Rattle.format.proofs.Each.{and-left, and-right, true-false, both, rule-passed, all-each}
 use Rattle.format.proofs.NestRun.{nest-as-run}
-use Rattle.format.proofs.Trees.{put-seam, Sized, flat-length, tree-at}
+use Rattle.format.proofs.Trees.{Sized, flat-length, tree-at}
 use Rattle.format.proofs.Forest.{Fit, isSub, countIn, Forest, leaf, tree, forest-sized, forest-append, forest-fit, forest-more, forest-run, pass-both}
 use Rattle.format.proofs.Framed.{subtree-fit, fields-same, length-numbers}
 use Rattle.format.proofs.BuilderRun.{Holds, tree-is, front-words, agrees, closed-within, holds-run, holds-new, all-accepted}
@@ -127,13 +127,12 @@ module _ (r : Frame) (b : Builder) (l : List ℕ) (H : Holds r [] b l) where
 
   -- "the root taken to hold all others": the list is the root's frame, closed
   builds : buildList l b ≡ flat (whole r)
-  unfolding buildList flat
+  unfolding buildList holdingAll flat
   builds =
-      let n = one-less in
-      let k : b .count - 1 ≡ length (r .made) = omega arith in
+      let e = flat-length (begun r) (refl, forest-sized (H .well .1 .forest)) in
+      let k : listCount (flat (begun r)) - 1 ≡ length (r .made) = omega arith in
       let q : List ℕ = r .kind ∷ fiveWords (r .opening) ++ fiveWords (r .closing) ++ flat (r .made) in
-      ap (λ z. put z 1 ((b .count - 1) ∷ [])) words ∙ ap (λ z. put (flat (begun r)) 1 (z ∷ [])) k
-      ∙ put-seam (3 ∷ []) (0 ∷ []) q (length (r .made) ∷ []) 1 refl refl
+      ap holdingAll words ∙ ap (λ n. 3 ∷ n ∷ q) k
 
   inner : innerList l b ≡ flat (r .made)
   unfolding innerList flat

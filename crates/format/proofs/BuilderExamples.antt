@@ -14,6 +14,7 @@ use Rattle.format.specs.Write.{suffixes, treeBytes, spanBytes, heavyByte
 use Rattle.format.specs.WordList.{rawFrom, listCount, listRules}
 use Rattle.format.specs.Writer.{find, raws, listVerdict}
 use Rattle.format.specs.Root.{WordSpan, rangeFits}
+use Rattle.format.specs.Holding.{holdingAll}
 use Rattle.format.specs.Builder.{Builder, Point, subtreeWords, leafFits, openFit, disagrees, Stepped, noBuilder, new, room, pushVerdict, openVerdict, closeVerdict, openBefore, isAmong, pointVerdict, restorePoint, pointFits, Step, push, openSubtree, closeSubtree, restore, builderStep, builderRun, builderFrom, buildList, innerList, skipList, build}
 
 -- ---- what the limits answer
@@ -172,7 +173,7 @@ build-open = refl
 
 -- a stored root count is not looked at
 stored-count : buildList (subtreeWords 5 3 z z) (record { count = 1; opened = [] }) ≡ subtreeWords 0 3 z z
-unfolding z buildList put
+unfolding z buildList holdingAll
 stored-count = refl
 
 -- one subtree in the root: the root goes; two trees in it: it stays
@@ -180,7 +181,7 @@ skips-top : (skipList (from (openSubtree 0 z ∷ push plus ∷ closeSubtree A �
     ≡ subtreeWords 1 0 z A ++ plus)
     × (skipList (from (openSubtree 0 z ∷ closeSubtree A ∷ push plus ∷ []) .words) (from (openSubtree 0 z ∷ closeSubtree A ∷ push plus ∷ []) .builder)
     ≡ subtreeWords 2 3 z z ++ subtreeWords 0 0 z A ++ plus)
-unfolding z A plus four from builderFrom new builderRun builderStep disagrees openFit put rawFrom buildList innerList
+unfolding z A plus four from builderFrom new builderRun builderStep disagrees openFit put rawFrom buildList holdingAll innerList
 skips-top = (refl, refl)
 
 -- the root of zeros around `+`: the parts are the punct's and the root's two, and the work words count bytes from the end
@@ -192,7 +193,7 @@ root-plus : build (7 ∷ 0 ∷ 0 ∷ 0 ∷ 0 ∷ 0 ∷ 0 ∷ 0 ∷ 0 ∷ []) [] 
       out = 0x04 ∷ 0x40 ∷ 0 ∷ 0 ∷ 1 ∷ 0 ∷ 0 ∷ 0 ∷ 0 ∷ 0 ∷ 0 ∷ 0 ∷ 0x1D ∷ 0x08 ∷ 0x40 ∷ 0 ∷ 0 ∷ 1 ∷ 0 ∷ 0 ∷ 0 ∷ 0 ∷ 0 ∷ 0 ∷ 0 ∷ 1 ∷ 0 ∷ 0 ∷ 0 ∷ 5 ∷ 0 ∷ 0 ∷ 0
           ∷ 0x41 ∷ 0x00 ∷ 0x05 ∷ 0x00 ∷ 0x56 ∷ 9 ∷ [];
     }
-unfolding z plus four from builderFrom new builderRun builderStep disagrees openFit put rawFrom buildList listVerdict listRules eachFrom nestFrom stillOpen find raws suffixes treeBytes spanBytes heavyBytes rootBytes
+unfolding z plus four from builderFrom new builderRun builderStep disagrees openFit put rawFrom buildList holdingAll listVerdict listRules eachFrom nestFrom stillOpen find raws suffixes treeBytes spanBytes heavyBytes rootBytes
 root-plus = refl
 
 -- a builder that disagrees has no point: 10 at 0

@@ -6,51 +6,54 @@ use mathlib.Core.List.{List, [], _∷_}
 use native.Mathlib.Omega.{arith}
 use borrow.Author.Tests.{le-ltb, eq-eqb, ne-eqb, eqb-true, eqb-false}
 use lib.Dec.{eqb, ltb, leb}
-use lib.ListN.{length, take, getD}
-use lib.Seq.{ext-getD, length-take-le}
+use lib.ListN.{length, getD, set, length-set}
+use lib.Seq.{getD-set-same, getD-set-other, set-getD}
 use Rattle.format.specs.Test.{if_then_else_}
 use Rattle.format.specs.Verdict.{Verdict, passed, refused, _andThen_, rule, eachFrom, each}
-use Rattle.format.specs.Word.{put}
 use Rattle.format.specs.Plain.{Listing, endOf, sub}
-use Rattle.format.specs.Nest.{stillOpen, innermost, nestFrom, nest}
+use Rattle.format.specs.Nest.{stillOpen, innermost, nestFrom, rooted, nest}
 use Rattle.format.specs.Buffer.{wordShape}
 use Rattle.format.specs.Tables.{partCount, indexedBelow}
 use Rattle.format.specs.WordList.{wordOf, thirteen, rawFrom, wordFields, listCount, given, rowTwo, listRules}
 use Rattle.format.specs.Writer.{partIndex, symbolIndex, rawOf, raws, present, rowFive}
-use Rattle.format.specs.Builder.{Builder, buildList}
 use Rattle.format.specs.Holding.{holdingAll}
-use Rattle.format.proofs.Put.{put-length, put-before, put-at, put-after}
+use Rattle.format.proofs.Each.{and-right, both, refused-not}
 
--- what `build` hands to the writer
-pub build-holds : (l : List ℕ) (b : Builder) → 1 ≤ b .count → b .count ≤ listCount l → holdingAll (take (13 * b .count) l) ≡ buildList l b
-unfolding buildList holdingAll
-build-holds l b h k =
-    let e : length (take (13 * b .count) l) ≡ 13 * b .count = length-take-le (13 * b .count) l (omega arith) in
-    let c : listCount (take (13 * b .count) l) ≡ b .count = rw e (omega arith) in
-    rw c
-
-module _ (l : List ℕ) (some : 1 ≤ listCount l) where
-  fits : 1 + 1 ≤ length l
-  fits = omega arith
-
+module _ (l : List ℕ) where
   pub holding-length : length (holdingAll l) ≡ length l
   unfolding holdingAll
-  holding-length = put-length l 1 ((listCount l - 1) ∷ []) fits
+  holding-length = go (eqb (getD l 0 0) 3)
+    where
+      go : (x : Bool) → length (if x then set l 1 (listCount l - 1) else l) ≡ length l
+      go true = length-set l 1 (listCount l - 1)
+      go false = refl
 
   pub holding-count : listCount (holdingAll l) ≡ listCount l
   holding-count = ap (λ n. n / 13) holding-length
 
   -- ---- the words
 
-  pub holding-root : getD (holdingAll l) 1 0 ≡ listCount l - 1
-  unfolding holdingAll
-  holding-root = put-at l 1 ((listCount l - 1) ∷ []) fits 0 (omega arith)
-
   pub holding-other : (i : ℕ) → (i ≡ 1 → ⊥) → getD (holdingAll l) i 0 ≡ getD l i 0
   unfolding holdingAll
-  holding-other zero f = put-before l 1 ((listCount l - 1) ∷ []) fits 0 (omega arith)
-  holding-other (suc zero) f = absurd (f refl)
-  holding-other (suc (suc i)) f = put-after l 1 ((listCount l - 1) ∷ []) fits (suc (suc i)) (omega arith)
+  holding-other i f = go (eqb (getD l 0 0) 3)
+    where
+      go : (x : Bool) → getD (if x then set l 1 (listCount l - 1) else l) i 0 ≡ getD l i 0
+      go true = getD-set-other l 1 i (listCount l - 1) 0 f
+      go false = refl
+
+  -- where tree 0 is no subtree, it is the list itself
+  pub holding-leaf : (getD l 0 0 ≡ 3 → ⊥) → holdingAll l ≡ l
+  unfolding holdingAll
+  holding-leaf h = let a = ne-eqb (getD l 0 0) 3 h in simp a
+
+  -- … and where the stored count is right
+  pub holding-same : getD l 1 0 ≡ listCount l - 1 → holdingAll l ≡ l
+  unfolding holdingAll
+  holding-same e = go (eqb (getD l 0 0) 3)
+    where
+      go : (x : Bool) → (if x then set l 1 (listCount l - 1) else l) ≡ l
+      go true = ap (set l 1) (sym e) ∙ set-getD l 1 0
+      go false = refl
 
   not-one : (n j : ℕ) → 1 ≤ n → 13 * n + j ≡ 1 → ⊥
   not-one n j h e = omega arith
@@ -58,14 +61,6 @@ module _ (l : List ℕ) (some : 1 ≤ listCount l) where
   -- of every tree but the root
   pub holding-words : (n : ℕ) → 1 ≤ n → wordOf (holdingAll l) n ≡ wordOf l n
   holding-words n h = λ i j. holding-other (13 * n + j) (not-one n j h) i
-
-  -- where the stored count is right, it is the list itself
-  pub holding-same : getD l 1 0 ≡ listCount l - 1 → holdingAll l ≡ l
-  holding-same e = ext-getD 0 (holdingAll l) l holding-length (λ i h. go i (eqb i 1) refl)
-    where
-      go : (i : ℕ) (x : Bool) → eqb i 1 ≡ x → getD (holdingAll l) i 0 ≡ getD l i 0
-      go i true t = let q = eqb-true i 1 t in rw q (holding-root ∙ sym e)
-      go i false t = holding-other i (eqb-false i 1 t)
 
   -- ---- row 5 and the trees with their indices
 
@@ -97,38 +92,49 @@ module _ (l : List ℕ) (some : 1 ≤ listCount l) where
     pub holding-five : (j n : ℕ) → eachFrom (rowFive parts symbols (holdingAll l)) j n ≡ eachFrom (rowFive parts symbols l) j n
     holding-five j n = ap (λ (f : ℕ → Verdict). eachFrom f j n) (λ i m. rule (holding-present m i) 5 m)
 
-  -- ---- rows 2 to 4, where tree 0 is a subtree
+  -- ---- rows 2 to 4
 
-  module _ (root : getD l 0 0 ≡ 3) where
+  pub holding-fields : (n : ℕ) → wordFields (wordOf (holdingAll l) n) ≡ wordFields (wordOf l n)
+  unfolding rawFrom
+  holding-fields zero = go (eqb (getD l 0 0) 3) refl
+    where
+      go : (x : Bool) → eqb (getD l 0 0) 3 ≡ x → wordFields (wordOf (holdingAll l) 0) ≡ wordFields (wordOf l 0)
+      go true t =
+          let root = eqb-true (getD l 0 0) 3 t in
+          let e₀ = holding-other 0 (λ e. absurd (omega arith)) in
+          let e₂ = holding-other 2 (λ e. absurd (omega arith)) in
+          let e₆ = holding-other 6 (λ e. absurd (omega arith)) in
+          let e₇ = holding-other 7 (λ e. absurd (omega arith)) in
+          let e₁₁ = holding-other 11 (λ e. absurd (omega arith)) in
+          let e₁₂ = holding-other 12 (λ e. absurd (omega arith)) in
+          rw (e₀, root) (rw (e₂, e₆, e₇, e₁₁, e₁₂))
+      go false t = ap (λ m. wordFields (wordOf m 0)) (holding-leaf (eqb-false (getD l 0 0) 3 t))
+  holding-fields (suc n) = ap wordFields (holding-words (suc n) (omega arith))
+
+  pub holding-two : each (rowTwo (holdingAll l)) (listCount (holdingAll l)) ≡ each (rowTwo l) (listCount l)
+  holding-two = λ i. each (λ m. rule (holding-fields m i) 2 m) (holding-count i)
+
+  -- below the root, under any ends
+  pub holding-below : (j n : ℕ) (es : List ℕ) → 1 ≤ n → nestFrom wordShape (given (holdingAll l)) j n es ≡ nestFrom wordShape (given l) j n es
+  unfolding nestFrom
+  holding-below zero n es h = refl
+  holding-below (suc j) n es h =
+      let w₀ = holding-other (13 * n + 0) (not-one n 0 h) in
+      let w₁ = holding-other (13 * n + 1) (not-one n 1 h) in
+      let c = holding-length in
+      let e₁ = holding-below j (n + 1) (endOf wordShape (given l) n ∷ stillOpen n es) (omega arith) in
+      let e₂ = holding-below j (n + 1) (stillOpen n es) (omega arith) in
+      rw (w₀, w₁, c, e₁, e₂)
+
+  -- ---- where tree 0 is a subtree
+
+  module _ (some : 1 ≤ listCount l) (root : getD l 0 0 ≡ 3) where
     root-there : getD (holdingAll l) 0 0 ≡ 3
     root-there = holding-other 0 (λ e. absurd (omega arith)) ∙ root
 
-    pub holding-fields : (n : ℕ) → wordFields (wordOf (holdingAll l) n) ≡ wordFields (wordOf l n)
-    unfolding rawFrom
-    holding-fields zero =
-        let e₀ = root-there in
-        let e₂ = holding-other 2 (λ e. absurd (omega arith)) in
-        let e₆ = holding-other 6 (λ e. absurd (omega arith)) in
-        let e₇ = holding-other 7 (λ e. absurd (omega arith)) in
-        let e₁₁ = holding-other 11 (λ e. absurd (omega arith)) in
-        let e₁₂ = holding-other 12 (λ e. absurd (omega arith)) in
-        rw (e₀, root) (rw (e₂, e₆, e₇, e₁₁, e₁₂))
-    holding-fields (suc n) = ap wordFields (holding-words (suc n) (omega arith))
-
-    pub holding-two : each (rowTwo (holdingAll l)) (listCount (holdingAll l)) ≡ each (rowTwo l) (listCount l)
-    holding-two = λ i. each (λ m. rule (holding-fields m i) 2 m) (holding-count i)
-
-    -- below the root, under any ends
-    pub holding-below : (j n : ℕ) (es : List ℕ) → 1 ≤ n → nestFrom wordShape (given (holdingAll l)) j n es ≡ nestFrom wordShape (given l) j n es
-    unfolding nestFrom
-    holding-below zero n es h = refl
-    holding-below (suc j) n es h =
-        let w₀ = holding-other (13 * n + 0) (not-one n 0 h) in
-        let w₁ = holding-other (13 * n + 1) (not-one n 1 h) in
-        let c = holding-length in
-        let e₁ = holding-below j (n + 1) (endOf wordShape (given l) n ∷ stillOpen n es) (omega arith) in
-        let e₂ = holding-below j (n + 1) (stillOpen n es) (omega arith) in
-        rw (w₀, w₁, c, e₁, e₂)
+    holding-root : getD (holdingAll l) 1 0 ≡ listCount l - 1
+    unfolding holdingAll
+    holding-root = let a = eq-eqb (getD l 0 0) 3 root in simp a (getD-set-same l 1 (listCount l - 1) 0 (omega arith))
 
     root-end : endOf wordShape (given (holdingAll l)) 0 ≡ listCount l
     root-end = let e = holding-root in rw e (omega arith)
@@ -155,6 +161,18 @@ module _ (l : List ℕ) (some : 1 ≤ listCount l) where
         let x = eq-eqb (endOf wordShape (given (holdingAll l)) 0) (listCount (holdingAll l)) (e ∙ sym c) in
         simp (s, x) (ap (λ m. nestFrom wordShape (given (holdingAll l)) m 0 []) k ∙ root-first (listCount l - 1) ∙ holding-below (listCount l - 1) 1 (listCount l ∷ []) (omega arith))
 
-    pub holding-rules : listRules (holdingAll l) ≡ (each (rowTwo l) (listCount l) andThen nestFrom wordShape (given l) (listCount l - 1) 1 (listCount l ∷ []))
-    unfolding listRules
-    holding-rules = λ i. holding-two i andThen holding-nest i
+-- a list that rows 2 to 4 pass: its root holds all others
+pub passed-root : (l : List ℕ) → listRules l ≡ passed → getD l 1 0 ≡ listCount l - 1
+unfolding listRules
+passed-root l e =
+    let a = both (each (rowTwo l) (listCount l)) (nest wordShape (given l)) e in
+    let b = rooted-is (rooted wordShape (given l)) (nestFrom wordShape (given l) (listCount l) 0 []) (a .1) in
+    let c = eqb-true _ _ (and-right (sub wordShape (given l) 0) (eqb (endOf wordShape (given l) 0) (listCount l)) b) in
+    sum (getD l 1 0) (listCount l) c
+  where
+    rooted-is : (x : Bool) (v : Verdict) → (if x then v else refused 3 0) ≡ passed → x ≡ true
+    rooted-is true v e = refl
+    rooted-is false v e = refused-not 3 0 e
+
+    sum : (a k : ℕ) → 0 + 1 + a ≡ k → a ≡ k - 1
+    sum a k e = omega arith

@@ -11,6 +11,7 @@ use Rattle.format.specs.Plain.{endOf, sub}
 use Rattle.format.specs.Buffer.{wordShape}
 use Rattle.format.specs.Root.{WordSpan, rangeFits, fiveWords}
 use Rattle.format.specs.WordList.{wordOf, thirteen, wordFields, listCount, given}
+use Rattle.format.specs.Holding.{holdingAll}
 use Rattle.format.specs.Writer.{writerVerdict, writerReport, workAfter, outAfter}
 
 pub record Builder : Type 0 where
@@ -225,7 +226,7 @@ builderFrom kind o c l ss =
 module _ (l : List ℕ) (b : Builder) where
   -- "the root taken to hold all others"
   unfoldable pub buildList : List ℕ
-  buildList = put (take (13 * b .count) l) 1 ((b .count - 1) ∷ [])
+  buildList = holdingAll (take (13 * b .count) l)
 
   -- the list without tree 0
   unfoldable pub innerList : List ℕ

@@ -16,7 +16,7 @@ use Rattle.format.specs.Buffer.{wordShape}
 use Rattle.format.specs.Holding.{holdingAll}
 use Rattle.format.specs.WordList.{wordOf, wordFields, listCount, given, listSized, listRules, listRows}
 use Rattle.format.proofs.Each.{and₃, and-left, and-right}
-use Rattle.format.proofs.Holding.{holding-same, holding-two, holding-nest}
+use Rattle.format.proofs.Holding.{holding-leaf, holding-same, holding-two, holding-nest}
 use Rattle.format.proofs.NestLaw.{still-above, still-below}
 use Rattle.tree.specs.Refusal.{verdictAnswer}
 use Rattle.tree.specs.declared.refusal.Refusal.{Refusal}
@@ -203,29 +203,43 @@ pub ruleset pass-cases = (first-most, most-next, next-less, pass-starts, pass-en
 
 -- ---- the rows in turn
 
-module _ (l : List ℕ) (some : 1 ≤ listCount l) where
-  held-row : getD l 0 0 ≡ 3 → nestRow (holdingAll l) ≡ nestBelow l
-  unfolding nestRow nestBelow passFrom
-  held-row r = holding-nest l some r
+module _ (l : List ℕ) where
+  unrooted-row : isRooted l ≡ false → nestRow l ≡ refused 3 0
+  unfolding nestRow isRooted
+  unrooted-row h = simp h
 
-  -- a root that holds all others needs no taking
-  rooted-row : isRooted l ≡ true → nestRow l ≡ nestBelow l
-  unfolding isRooted
-  rooted-row h =
-      let a = eqb-true (getD l 0 0) 3 (and-left (eqb (getD l 0 0) 3) (eqb (0 + 1 + wordOf l 0 1) (listCount l)) h) in
-      let c = eqb-true (0 + 1 + wordOf l 0 1) (listCount l) (and-right (eqb (getD l 0 0) 3) (eqb (0 + 1 + wordOf l 0 1) (listCount l)) h) in
-      let e : getD l 1 0 ≡ listCount l - 1 = omega arith in
-      ap nestRow (sym (holding-same l some e)) ∙ held-row a
+  module _ (some : 1 ≤ listCount l) where
+    held-row : getD l 0 0 ≡ 3 → nestRow (holdingAll l) ≡ nestBelow l
+    unfolding nestRow nestBelow passFrom
+    held-row r = holding-nest l some r
+
+    -- a root that holds all others needs no taking
+    rooted-row : isRooted l ≡ true → nestRow l ≡ nestBelow l
+    unfolding isRooted
+    rooted-row h =
+        let a = eqb-true (getD l 0 0) 3 (and-left (eqb (getD l 0 0) 3) (eqb (0 + 1 + wordOf l 0 1) (listCount l)) h) in
+        let c = eqb-true (0 + 1 + wordOf l 0 1) (listCount l) (and-right (eqb (getD l 0 0) 3) (eqb (0 + 1 + wordOf l 0 1) (listCount l)) h) in
+        let e : getD l 1 0 ≡ listCount l - 1 = omega arith in
+        ap nestRow (sym (holding-same l e)) ∙ held-row a
 
 module _ (l : List ℕ) (b : Bool) (e : b ≡ isRooted l) where
   pub not-rooted : not b ≡ true → (v : Verdict) → v ≡ verdictAnswer (refused 3 0) → v ≡ verdictAnswer (nestRow l)
-  unfolding nestRow isRooted
-  not-rooted k v q = let a = sym e ∙ not-true b k in q ∙ simp a
+  not-rooted k v q = q ∙ ap verdictAnswer (sym (unrooted-row l (sym e ∙ not-true b k)))
 
   pub rooted-pass : not b ≡ false → 1 ≤ listCount l → (v : Verdict) → v ≡ verdictAnswer (nestBelow l) → v ≡ verdictAnswer (nestRow l)
   rooted-pass k h v q = q ∙ ap verdictAnswer (sym (rooted-row l h (sym e ∙ not-false b k)))
 
 pub ruleset nest-cases = (not-rooted, rooted-pass)
+
+-- … of a list whose root is taken to hold all others
+module _ (l : List ℕ) (v : Verdict) where
+  pub leaf-root : (getD l 0 0 ≡ 3 → ⊥) → v ≡ verdictAnswer (refused 3 0) → v ≡ verdictAnswer (nestRow (holdingAll l))
+  leaf-root h q = q ∙ ap verdictAnswer (sym (ap nestRow (holding-leaf l h) ∙ unrooted-row l (sym (root-sort l h))))
+
+  pub holding-root : getD l 0 0 ≡ 3 → 1 ≤ listCount l → v ≡ verdictAnswer (nestBelow l) → v ≡ verdictAnswer (nestRow (holdingAll l))
+  holding-root h some q = q ∙ ap verdictAnswer (sym (held-row l some h))
+
+pub ruleset holding-cases = (leaf-root, holding-root)
 
 module _ (l : List ℕ) (r : Verdict) (e : r ≡ verdictAnswer (fieldsFrom l 0)) where
   whole : verdictAnswer (fieldsFrom l 0 andThen nestRow l) ≡ verdictAnswer (listRules l)
@@ -241,19 +255,18 @@ module _ (l : List ℕ) (r : Verdict) (e : r ≡ verdictAnswer (fieldsFrom l 0))
 pub ruleset rules-cases = (rules-two, rules-nest)
 
 -- … of a list whose root is taken to hold all others
-module _ (l : List ℕ) (some : 1 ≤ listCount l) (root : getD l 0 0 ≡ 3) (r : Verdict) (e : r ≡ verdictAnswer (fieldsFrom l 0)) where
+module _ (l : List ℕ) (r : Verdict) (e : r ≡ verdictAnswer (fieldsFrom l 0)) where
   held-whole : verdictAnswer (fieldsFrom l 0 andThen nestRow (holdingAll l)) ≡ verdictAnswer (listRules (holdingAll l))
   unfolding listRules fieldsFrom nestRow
   held-whole =
       let z : listCount l - 0 ≡ listCount l = omega arith in
-      rw z (ap (λ v. verdictAnswer (v andThen nest wordShape (given (holdingAll l)))) (sym (holding-two l some root)))
+      rw z (ap (λ v. verdictAnswer (v andThen nest wordShape (given (holdingAll l)))) (sym (holding-two l)))
 
   pub held-two : (a : Refusal) → r ≡ Refused a → Refused a ≡ verdictAnswer (listRules (holdingAll l))
   held-two a k = sym (answer-refused (fieldsFrom l 0) (nestRow (holdingAll l)) a (sym e ∙ k)) ∙ held-whole
 
-  pub held-nest : r ≡ Passed → (v : Verdict) → v ≡ verdictAnswer (nestBelow l) → v ≡ verdictAnswer (listRules (holdingAll l))
-  held-nest k v q =
-      q ∙ ap verdictAnswer (sym (held-row l some root)) ∙ sym (answer-passed (fieldsFrom l 0) (nestRow (holdingAll l)) (sym e ∙ k)) ∙ held-whole
+  pub held-nest : r ≡ Passed → (v : Verdict) → v ≡ verdictAnswer (nestRow (holdingAll l)) → v ≡ verdictAnswer (listRules (holdingAll l))
+  held-nest k v q = q ∙ sym (answer-passed (fieldsFrom l 0) (nestRow (holdingAll l)) (sym e ∙ k)) ∙ held-whole
 
 pub ruleset held-cases = (held-two, held-nest)
 

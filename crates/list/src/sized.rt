@@ -158,6 +158,17 @@ fn nest(l: &[u32]) -> Verdict
     nest_below(l)
 }
 
+// The same where the root, if it is a subtree, is taken to hold all others.
+fn nest_holding(l: &[u32]) -> Verdict
+    requires { ⌜ (1 ≤ listCount (now l)) × (listCount (now l) ≤ 1048576) ⌝ }
+    ensures { λ r. ⌜ r ≡ verdictAnswer (nestRow (holdingAll (now (l .entry)))) ⌝ }
+{
+    if l[0] != 3 {
+        return refused(3, 0);
+    }
+    nest_below(l)
+}
+
 // The first of rows 2 to 4 that a list breaks, at the lowest tree.
 pub fn list_rules(l: &[u32]) -> Verdict
     requires { ⌜ (1 ≤ listCount (now l)) × (listCount (now l) ≤ 1048576) ⌝ }
@@ -169,13 +180,13 @@ pub fn list_rules(l: &[u32]) -> Verdict
     }
 }
 
-// The same of a list whose root, a subtree, is taken to hold all others.
+// The same of a list whose root, where it is a subtree, is taken to hold all others.
 pub fn list_rules_holding(l: &[u32]) -> Verdict
-    requires { ⌜ (1 ≤ listCount (now l)) × (listCount (now l) ≤ 1048576) × (getD (now l) 0 0 ≡ 3) ⌝ }
+    requires { ⌜ (1 ≤ listCount (now l)) × (listCount (now l) ≤ 1048576) ⌝ }
     ensures { λ r. ⌜ r ≡ verdictAnswer (listRules (holdingAll (now (l .entry)))) ⌝ }
 {
     match row_two(l) {
-        Verdict::Passed => nest_below(l),
+        Verdict::Passed => nest_holding(l),
         Verdict::Refused(at) => Verdict::Refused(at),
     }
 }

@@ -1,4 +1,4 @@
--- The rows in turn: one law for each return of src/encode.rt.
+-- The rows in turn: one law for each return of src/write.rt and src/once.rt.
 use Prim.Native.Nat.{ℕ, zero, suc, _+_, _-_, _/_, _%_, _≤_, _<_}
 use mathlib.Core.Bool.{Bool, true, false, not, _&&_}
 use mathlib.Core.Path.{_≡_, refl, sym, ap, _∙_, subst}
@@ -23,7 +23,7 @@ use Rattle.format.specs.Buffer.{wordShape}
 use Rattle.format.specs.Holding.{holdingAll}
 use Rattle.format.specs.Writer.{present, rowFive, listVerdict, trees, packed}
 use Rattle.format.proofs.Each.{and₃, and-right, both, refused-not}
-use Rattle.format.proofs.Holding.{holding-length, holding-count, holding-same, holding-five}
+use Rattle.format.proofs.Holding.{holding-length, holding-count, holding-same, holding-five, passed-root}
 use Rattle.format.proofs.Tally.{lt-or-le}
 use Rattle.format.proofs.Put.{put-length, put-at, put-after}
 use Rattle.places.specs.Places.{Roomy}
@@ -34,13 +34,14 @@ use Rattle.tree.specs.declared.refusal.Verdict.{Verdict}
 use Rattle.tree.specs.declared.refusal.Verdict.the-variants as verdicts
 use Rattle.tree.specs.declared.refusal.Report.{Report}
 use Rattle.tree.specs.declared.refusal.Report.the-variants.{Wrote, Refused}
-use Rattle.writer.specs.Tail.{fiveFrom, restOf, sizeFrom}
-use Rattle.writer.specs.Run.{firstAbsent, Lent, Ready, Sized, Beyond}
-use Rattle.writer.specs.Written.{Written, Within, Ruled, Passed, Finished}
-use Rattle.writer.proofs.TailLaw.{work-length, work-at}
-use Rattle.writer.proofs.HoldLaw.{held-count, hold-size}
-use Rattle.writer.proofs.RunLaw.{run-cases, ready-roomy, ready-indexed, run-whole, lent-roomy, lent-ready, same-chain}
-use Rattle.writer.proofs.FiveReturns.{five-past, five-here, five-once, five-through}
+use Rattle.passes.specs.Passed.{Within, Passed}
+use Rattle.passes.specs.Tail.{fiveFrom, restOf, sizeFrom, headOf}
+use Rattle.passes.specs.Run.{firstAbsent, Lent, Ready, Sized, Beyond}
+use Rattle.passes.proofs.TailLaw.{work-length, work-at, head-whole}
+use Rattle.passes.proofs.HoldLaw.{held-count, hold-size}
+use Rattle.passes.proofs.RunLaw.{run-cases, ready-roomy, ready-indexed, run-whole, lent-roomy, lent-ready, same-chain}
+use Rattle.passes.proofs.FiveReturns.{five-past, five-here, five-once, five-through}
+use Rattle.writer.specs.Written.{Written, Ruled, Finished}
 
 pub refuse-answer : (r n : ℕ) → Refused (record { number = r; tree = n }) ≡ reportAnswer (refusal r n)
 unfolding reportAnswer
@@ -121,22 +122,6 @@ module _ (p s l : List ℕ) where
     unfolding reportAnswer
     written-as r n q f e = rw f (was-written r n e)
 
--- rows 3 and 4 begin with the root's count
-root-count : (l : List ℕ) → listRules l ≡ passed → getD l 1 0 ≡ listCount l - 1
-unfolding listRules
-root-count l e =
-    let a = both (each (rowTwo l) (listCount l)) (nest wordShape (given l)) e in
-    let b = rooted-is (rooted wordShape (given l)) (nestFrom wordShape (given l) (listCount l) 0 []) (a .1) in
-    let c = eqb-true _ _ (and-right (sub wordShape (given l) 0) (eqb (endOf wordShape (given l) 0) (listCount l)) b) in
-    sum (getD l 1 0) (listCount l) c
-  where
-    rooted-is : (x : Bool) (v : format.Verdict) → (if x then v else refused 3 0) ≡ passed → x ≡ true
-    rooted-is true v e = refl
-    rooted-is false v e = refused-not 3 0 e
-
-    sum : (a k : ℕ) → 0 + 1 + a ≡ k → a ≡ k - 1
-    sum a k e = omega arith
-
 -- ---- the public functions
 
 module _ (p s l : List ℕ) (x : Bool) (e : x ≡ listSized l) where
@@ -189,12 +174,12 @@ module _ (p s l : List ℕ) (x : Bool) (e : x ≡ listSized l) where
           rules-refused a q work out = written-at p s l work out a (verdict-rules p s l sized (a .number) (a .tree) (was-refused (listRules l) a (sym g ∙ q)))
 
 -- a list that rows 2 to 4 pass has a root that holds all others
-module _ (l : List ℕ) (some : 1 ≤ listCount l) (v : Verdict) (g : v ≡ verdictAnswer (listRules l)) (q : v ≡ verdicts.Passed) where
+module _ (l : List ℕ) (v : Verdict) (g : v ≡ verdictAnswer (listRules l)) (q : v ≡ verdicts.Passed) where
   own-rules : listRules l ≡ passed
   own-rules = was-passed (listRules l) (sym g ∙ q)
 
   as-it-is : holdingAll l ≡ l
-  as-it-is = holding-same l some (root-count l own-rules)
+  as-it-is = holding-same l (passed-root l own-rules)
 
   pub rules-passed : listRules (holdingAll l) ≡ passed
   rules-passed = ap listRules as-it-is ∙ own-rules
@@ -206,9 +191,9 @@ pub ruleset list-cases = (row-one-list, some-listed, most-listed, row-one-tables
 
 -- ---- the same where the root is taken to hold all others
 
-module _ (p s l : List ℕ) (some : 1 ≤ listCount l) (x : Bool) (e : x ≡ listSized l) where
+module _ (p s l : List ℕ) (x : Bool) (e : x ≡ listSized l) where
   held-size : x ≡ listSized (holdingAll l)
-  held-size = let n = holding-length l some in e ∙ rw n
+  held-size = let n = holding-length l in e ∙ rw n
 
   pub row-one-held : not x ≡ true → (work out : List ℕ) (q : Report) → q ≡ reportAnswer (refusal 1 0) → Written p s (holdingAll l) work out q work out
   row-one-held h work out q f = row-one-list p s (holdingAll l) x held-size h work out q f
@@ -224,7 +209,7 @@ module _ (p s l : List ℕ) (some : 1 ≤ listCount l) (x : Bool) (e : x ≡ lis
 pub held-passed : (l : List ℕ) (v : Verdict) → v ≡ verdictAnswer (listRules (holdingAll l)) → v ≡ verdicts.Passed → listRules (holdingAll l) ≡ passed
 held-passed l v g q = was-passed (listRules (holdingAll l)) (sym g ∙ q)
 
-pub ruleset held-cases = (row-one-held, most-listed, row-one-held-tables, within, held-refused, held-passed)
+pub ruleset held-cases = (row-one-held, some-listed, most-listed, row-one-held-tables, within, held-refused, held-passed)
 
 -- ---- row 5
 
@@ -233,8 +218,8 @@ module _ (p s l : List ℕ) (w : Within p s l) (r : listRules (holdingAll l) ≡
   held-five : listVerdict p s (holdingAll l) ≡ fiveFrom p s l 0
   unfolding fiveFrom
   held-five =
-      let n = holding-length l (w .someTrees) in
-      verdict-five p s (holdingAll l) (rw n (w .sized)) r ∙ ap (λ k. eachFrom (rowFive p s (holdingAll l)) (k - 0) 0) (holding-count l (w .someTrees)) ∙ holding-five l (w .someTrees) p s (listCount l - 0) 0
+      let n = holding-length l in
+      verdict-five p s (holdingAll l) (rw n (w .sized)) r ∙ ap (λ k. eachFrom (rowFive p s (holdingAll l)) (k - 0) 0) (holding-count l) ∙ holding-five l p s (listCount l - 0) 0
 
 module _ (p s l : List ℕ) (w : Within p s l) (r : listRules (holdingAll l) ≡ passed) (x : Bool) (e : x ≡ present p [] l 0) where
   pub root-absent : not x ≡ true → (work out : List ℕ) (q : Report) → q ≡ reportAnswer (refusal 5 0) → Written p s (holdingAll l) work out q work out
@@ -313,10 +298,12 @@ module _ (p s l : List ℕ) (ok : Passed p s l) (work : List ℕ) (w : Sized p s
       pub out-fits : sizeFrom p s l 0 ≤ length out
       out-fits = let z = w .at 0 (omega arith) (omega arith) in omega arith
 
-      pub out-written : (out′ : List ℕ) → out′ ≡ put out 0 (packed p s (holdingAll l)) → Finished p s (holdingAll l) out (Wrote t) out′
+      -- all trees are written
+      pub out-written : (out′ : List ℕ) → out′ ≡ put out 0 (headOf p s (holdingAll l) (listCount l)) → Finished p s (holdingAll l) out (Wrote t) out′
       unfolding reportAnswer
-      out-written out′ f =
+      out-written out′ g =
           let z = total in
+          let f : out′ ≡ put out 0 (packed p s (holdingAll l)) = g ∙ ap (λ n. put out 0 (headOf p s (holdingAll l) n)) (sym (held-count p s l ok)) ∙ ap (put out 0) (head-whole p s (holdingAll l)) in
           let a : leb (length (packed p s (holdingAll l))) (length out) ≡ true = le-leb (length (packed p s (holdingAll l))) (length out) (omega arith) in
           record { answer = rw z (simp a); contents = f ∙ simp a }
 

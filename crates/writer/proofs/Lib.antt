@@ -1,7 +1,1 @@
-pub mod TailLaw
-pub mod HoldLaw
-pub mod RunLaw
-pub mod FiveReturns
-pub mod SizesReturns
-pub mod BytesReturns
 pub mod EncodeReturns

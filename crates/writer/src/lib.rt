@@ -1,7 +1,4 @@
 // The writer of a list over given tables: rows 1 to 5, then the sizes, then the bytes.
-mod bytes;
-mod five;
 mod once;
 mod refuse;
-mod sizes;
 pub mod write;

@@ -1,57 +1,19 @@
 // A list whose trees below the root are one run: their indices are found once, for row 5, the sizes and the bytes.
-use crate::bytes::put_root;
-use crate::bytes::put_run;
-use crate::five::first_absent;
 use crate::refuse::refuse;
 use crate::refuse::refuse_at;
-use crate::sizes::size_root;
-use crate::sizes::size_run;
+use passes::bytes::put_once;
+use passes::five::first_absent;
+use passes::sizes::fill_once;
 use places::resolve::resolve;
 use tree::raw::place;
 use tree::refusal::Report;
-ghost use mathlib.Core.Path.{_≡_};
-ghost use Prim.Native.Nat.{_<_, _≤_};
+ghost use Prim.Native.Nat.{_≤_};
 ghost use lib.ListN.{length};
 ghost use Rattle.format.specs.Holding.{holdingAll};
-ghost use Rattle.format.specs.Word.{put};
 ghost use Rattle.format.specs.WordList.{listCount};
-ghost use Rattle.format.specs.Writer.{packed};
-ghost use Rattle.writer.specs.Tail.{sizeFrom};
-ghost use Rattle.writer.specs.Run.{Ready, Run, Sized, Beyond};
-ghost use Rattle.writer.specs.Written.{Written, Ruled, Passed, Finished};
-
-// The whole output: the root, then the run.
-fn put_once(
-    l: &[u32],
-    parts: &[u32],
-    symbols: &[u32],
-    opens: &[u32],
-    closes: &[u32],
-    syms: &[u32],
-    work: &[u32],
-    out: &mut [u8],
-)
-    requires { ⌜ Passed (now parts) (now symbols) (now l) ⌝ }
-    requires { ⌜ Run (now parts) (now symbols) (now l) 1 (listCount (now l)) (now opens) (now closes) (now syms) ⌝ }
-    requires { ⌜ Sized (now parts) (now symbols) (now l) 0 (now work) ⌝ }
-    requires { ⌜ sizeFrom (now parts) (now symbols) (now l) 0 ≤ length (now out) ⌝ }
-    ensures { λ _. ⌜ now (out .exit) ≡ put (now (out .entry)) 0
-        (packed (now (parts .entry)) (now (symbols .entry)) (holdingAll (now (l .entry)))) ⌝ }
-{
-    put_root(l, parts, symbols, work, out);
-    put_run(
-        l,
-        parts,
-        symbols,
-        1,
-        l.len() / 13,
-        opens,
-        closes,
-        syms,
-        work,
-        out,
-    );
-}
+ghost use Rattle.passes.specs.Passed.{Passed};
+ghost use Rattle.passes.specs.Run.{Ready, Run, Sized};
+ghost use Rattle.writer.specs.Written.{Written, Ruled, Finished};
 
 // Row 6 for the output, then its bytes.
 fn finish_once(
@@ -74,30 +36,18 @@ fn finish_once(
     if out.len() < total {
         return refuse(6);
     }
-    put_once(l, parts, symbols, opens, closes, syms, work, out);
+    put_once(
+        l,
+        parts,
+        symbols,
+        l.len() / 13,
+        opens,
+        closes,
+        syms,
+        work,
+        out,
+    );
     Report::Wrote(total)
-}
-
-// All work words: 0 behind the last tree, the total at the root.
-fn fill_once(
-    l: &[u32],
-    parts: &[u32],
-    symbols: &[u32],
-    opens: &[u32],
-    closes: &[u32],
-    syms: &[u32],
-    work: &mut [u32],
-)
-    requires { ⌜ Passed (now parts) (now symbols) (now l) ⌝ }
-    requires { ⌜ Run (now parts) (now symbols) (now l) 1 (listCount (now l)) (now opens) (now closes) (now syms) ⌝ }
-    requires { ⌜ listCount (now l) < length (now work) ⌝ }
-    ensures { λ _. ⌜ Sized (now (parts .entry)) (now (symbols .entry)) (now (l .entry)) 0 (now (work .exit)) ⌝ }
-    ensures { λ _. ⌜ Beyond (now (l .entry)) (now (work .exit)) (now (work .entry)) ⌝ }
-{
-    let count = l.len() / 13;
-    work[count] = 0;
-    size_run(l, parts, symbols, 1, count, opens, closes, syms, work);
-    size_root(l, parts, symbols, work);
 }
 
 // Row 6 for the work words, then those, then the output.

@@ -7,7 +7,7 @@ ghost use Rattle.format.specs.Verdict.{refusal};
 ghost use Rattle.tree.specs.Refusal.{reportAnswer};
 
 // Row `number`, which names no tree but the root.
-pub fn refuse(number: u32) -> Report
+pub(crate) fn refuse(number: u32) -> Report
     ensures { λ r. ⌜ r ≡ reportAnswer (refusal number 0) ⌝ }
 {
     Report::Refused(Refusal {

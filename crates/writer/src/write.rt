@@ -1,26 +1,25 @@
 // The writer: rows 1 to 6 in turn, the work words, the bytes.
-use crate::bytes::put_list;
-use crate::five::root_present;
-use crate::five::row_five;
 use crate::once::write_once;
 use crate::refuse::refuse;
-use crate::sizes::fill_work;
 use list::rows::list_sized;
 use list::sized::list_rules;
 use list::sized::list_rules_holding;
+use passes::bytes::put_list;
+use passes::five::root_present;
+use passes::five::row_five;
+use passes::sizes::fill_work;
 use places::resolve::build;
 use tree::raw::place;
 use tree::refusal::Report;
 use tree::refusal::Verdict;
 ghost use mathlib.Core.Path.{_≡_};
-ghost use Prim.Native.Nat.{_≤_};
-ghost use lib.ListN.{getD};
 ghost use Rattle.format.specs.Holding.{holdingAll};
 ghost use Rattle.format.specs.Tables.{ownTables};
 ghost use Rattle.format.specs.Verdict.{passed};
-ghost use Rattle.format.specs.WordList.{listCount, listRules};
-ghost use Rattle.writer.specs.Run.{Lent, Ready, Sized};
-ghost use Rattle.writer.specs.Written.{Written, Within, Ruled, Passed, Finished};
+ghost use Rattle.format.specs.WordList.{listRules};
+ghost use Rattle.passes.specs.Passed.{Within, Passed};
+ghost use Rattle.passes.specs.Run.{Lent, Ready, Sized};
+ghost use Rattle.writer.specs.Written.{Written, Ruled, Finished};
 
 // Row 6 for the output, then its bytes.
 fn finish(
@@ -50,6 +49,7 @@ fn finish(
         l,
         parts,
         symbols,
+        l.len() / 13,
         work,
         out,
         part_slots,
@@ -380,7 +380,7 @@ pub fn encode_list(
     }
 }
 
-// The same of a list whose root, a subtree, is taken to hold all others, whatever count it has stored.
+// The same of a list whose root, where it is a subtree, is taken to hold all others, whatever count it has stored.
 pub fn encode_holding(
     l: &[u32],
     parts: &[u32],
@@ -388,7 +388,6 @@ pub fn encode_holding(
     work: &mut [u32],
     out: &mut [u8],
 ) -> Report
-    requires { ⌜ (1 ≤ listCount (now l)) × (getD (now l) 0 0 ≡ 3) ⌝ }
     ensures { λ r. ⌜ Written (now (parts .entry)) (now (symbols .entry)) (holdingAll (now (l .entry)))
         (now (work .entry)) (now (out .entry)) r (now (work .exit)) (now (out .exit)) ⌝ }
 {

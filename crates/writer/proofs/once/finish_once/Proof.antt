@@ -5,7 +5,7 @@ use Rattle.writer.proofs.once.finish_once.Tie as tie
 use Rattle.writer.proofs.once.finish_once.Reads as reads
 use Rattle.writer.proofs.once.finish_once.Lts as lts
 use Rattle.tree.proofs.raw.place.Reads as place-reads
-use Rattle.writer.proofs.once.put_once.Reads as put-once-reads
+use Rattle.passes.proofs.bytes.put_once.Reads as put-once-reads
 use Rattle.writer.proofs.refuse.refuse.Reads as refuse-reads
 
 -- src/once.rt:59:23

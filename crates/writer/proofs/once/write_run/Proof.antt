@@ -4,7 +4,7 @@ use Rattle.writer.proofs.once.write_run.Statement.{statement}
 use Rattle.writer.proofs.once.write_run.Tie as tie
 use Rattle.writer.proofs.once.write_run.Reads as reads
 use Rattle.writer.proofs.once.write_run.Lts as lts
-use Rattle.writer.proofs.five.first_absent.Reads as first-absent-reads
+use Rattle.passes.proofs.five.first_absent.Reads as first-absent-reads
 use Rattle.writer.proofs.once.write_sized.Reads as write-sized-reads
 use Rattle.writer.proofs.refuse.refuse_at.Reads as refuse-at-reads
 

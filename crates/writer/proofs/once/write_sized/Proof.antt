@@ -4,7 +4,7 @@ use Rattle.writer.proofs.once.write_sized.Statement.{statement}
 use Rattle.writer.proofs.once.write_sized.Tie as tie
 use Rattle.writer.proofs.once.write_sized.Reads as reads
 use Rattle.writer.proofs.once.write_sized.Lts as lts
-use Rattle.writer.proofs.once.fill_once.Reads as fill-once-reads
+use Rattle.passes.proofs.sizes.fill_once.Reads as fill-once-reads
 use Rattle.writer.proofs.once.finish_once.Reads as finish-once-reads
 use Rattle.writer.proofs.refuse.refuse.Reads as refuse-reads
 

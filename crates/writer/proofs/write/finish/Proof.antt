@@ -5,7 +5,7 @@ use Rattle.writer.proofs.write.finish.Tie as tie
 use Rattle.writer.proofs.write.finish.Reads as reads
 use Rattle.writer.proofs.write.finish.Lts as lts
 use Rattle.tree.proofs.raw.place.Reads as place-reads
-use Rattle.writer.proofs.bytes.put_list.Reads as put-list-reads
+use Rattle.passes.proofs.bytes.put_list.Reads as put-list-reads
 use Rattle.writer.proofs.refuse.refuse.Reads as refuse-reads
 
 -- src/encode.rt:49:23

@@ -5,7 +5,7 @@ use Rattle.writer.proofs.write.write_built.Tie as tie
 use Rattle.writer.proofs.write.write_built.Reads as reads
 use Rattle.writer.proofs.write.write_built.Lts as lts
 use Rattle.writer.proofs.write.write_passed.Reads as write-passed-reads
-use Rattle.writer.proofs.five.row_five.Reads as row-five-reads
+use Rattle.passes.proofs.five.row_five.Reads as row-five-reads
 use Rattle.writer.proofs.once.write_once.Reads as write-once-reads
 
 -- src/encode.rt:121:9

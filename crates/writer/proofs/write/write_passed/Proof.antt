@@ -6,7 +6,7 @@ use Rattle.writer.proofs.write.write_passed.Reads as reads
 use Rattle.writer.proofs.write.write_passed.Lts as lts
 use Rattle.writer.proofs.write.finish.Reads as finish-reads
 use Rattle.writer.proofs.refuse.refuse.Reads as refuse-reads
-use Rattle.writer.proofs.sizes.fill_work.Reads as fill-work-reads
+use Rattle.passes.proofs.sizes.fill_work.Reads as fill-work-reads
 
 -- src/encode.rt:75:9
 refuse-requires : tie.Need-refuse-requires

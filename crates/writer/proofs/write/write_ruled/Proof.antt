@@ -5,7 +5,7 @@ use Rattle.writer.proofs.write.write_ruled.Tie as tie
 use Rattle.writer.proofs.write.write_ruled.Reads as reads
 use Rattle.writer.proofs.write.write_ruled.Lts as lts
 use Rattle.writer.proofs.refuse.refuse.Reads as refuse-reads
-use Rattle.writer.proofs.five.root_present.Reads as root-present-reads
+use Rattle.passes.proofs.five.root_present.Reads as root-present-reads
 
 -- src/encode.rt:226:9
 root-present-requires : tie.Need-root-present-requires

@@ -1,0 +1,6 @@
+pub mod TailLaw
+pub mod HoldLaw
+pub mod RunLaw
+pub mod FiveReturns
+pub mod SizesReturns
+pub mod BytesReturns
