@@ -18,3 +18,5 @@ pub mod ClassReturns
 pub mod LargeReturns
 pub mod CountReturns
 pub mod MakeReturns
+-- ---- what the answers mean
+pub mod Tabled

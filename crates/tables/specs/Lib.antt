@@ -7,3 +7,4 @@ pub mod Pairs
 pub mod Count
 pub mod Made
 pub mod Classes
+pub mod Tabled

@@ -5,3 +5,5 @@ pub mod FiveReturns
 pub mod SizesReturns
 pub mod BytesReturns
 pub mod EncodeReturns
+-- ---- what the answers mean
+pub mod Encoded

@@ -1,3 +1,4 @@
 pub mod Tail
 pub mod Run
 pub mod Written
+pub mod Encoded
