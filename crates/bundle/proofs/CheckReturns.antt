@@ -10,10 +10,10 @@ use Rattle.format.specs.Bundle as bundles
 use Rattle.format.specs.Bundle.{bundleAt, bundleCheck, numberOf}
 use Rattle.format.proofs.BundleLaw.{sizesOf, bundle-by-sizes}
 use Rattle.tree.specs.Refusal.{verdictAnswer}
+use Rattle.tree.proofs.Answers.{answer-passed, answer-refused}
 use Rattle.tree.specs.declared.refusal.Refusal.{Refusal}
 use Rattle.tree.specs.declared.refusal.Verdict.{Verdict}
 use Rattle.tree.specs.declared.refusal.Verdict.the-variants.{Passed, Refused}
-use Rattle.checker.proofs.Admits.{answer-passed, answer-refused}
 use Rattle.bundle.specs.Answer.{readAnswer}
 use Rattle.bundle.specs.declared.read.Contents.{Contents}
 use Rattle.bundle.specs.declared.read.BundleRead.{BundleRead}

@@ -1,10 +1,9 @@
 -- What the answers of `check_buffer` and `check` mean: Passed is given to the admitted buffers and to no other, and a refusal where its row holds first.
 use Prim.Native.Nat.{ℕ, _/_, _%_}
-use mathlib.Core.Path.{_≡_, refl, sym, ap, _∙_}
+use mathlib.Core.Path.{_≡_, sym, ap, _∙_}
 use mathlib.Core.List.{List}
-use native.Mathlib.Omega.{arith}
 use lib.ListN.{length}
-use Rattle.format.specs.Verdict.{Verdict, passed, refused}
+use Rattle.format.specs.Verdict.{passed}
 use Rattle.format.specs.Check.{check, Admitted}
 use Rattle.format.specs.Rule.{WalkRule}
 use Rattle.format.specs.Buffer.{wordShape, ownReader, bufferCheck, rawShape, sizeReader}
@@ -20,24 +19,7 @@ use Rattle.tree.specs.Refusal.{verdictAnswer}
 use Rattle.tree.specs.declared.refusal.Refusal.{Refusal}
 use Rattle.tree.specs.declared.refusal.Verdict.{Verdict as Answer}
 use Rattle.tree.specs.declared.refusal.Verdict.the-variants.{Passed, Refused}
-
--- ---- an answer tells its verdict
-
-passed-refused : {A : Type 0} (x : Refusal) → Passed ≡ Refused x → A
-passed-refused x e = let z : _≡_ {A = ℕ} 0 1 = cc in absurd (omega arith)
-
-same-refusal : (x y : Refusal) → Refused x ≡ Refused y → x ≡ y
-same-refusal x y e = cc
-
-pub answer-passed : (v : Verdict) → verdictAnswer v ≡ Passed → v ≡ passed
-unfolding verdictAnswer
-answer-passed passed e = refl
-answer-passed (refused r n) e = passed-refused _ (sym e)
-
-pub answer-refused : (v : Verdict) (x : Refusal) → verdictAnswer v ≡ Refused x → v ≡ refused (x .number) (x .tree)
-unfolding verdictAnswer
-answer-refused passed x e = passed-refused x e
-answer-refused (refused r n) x e = ap (λ (y : Refusal). refused (y .number) (y .tree)) (same-refusal _ x e)
+use Rattle.tree.proofs.Answers.{answer-passed, answer-refused}
 
 -- ---- check_buffer: r is its answer
 

@@ -37,7 +37,8 @@ module _ (b : List ℕ) (k : ℕ) (parts symbols : List ℕ) where
   abbrev O : Reader (List ℕ)
   O = ownReader b k parts symbols
 
-  looking : (c : calls.Cursor) → (cursorStep wordShape O tokenTree c .1 ≡ c) × (cursorStep wordShape O peekTwoLeaves c .1 ≡ c)
+  -- looking leaves the cursor as it is
+  pub looking : (c : calls.Cursor) → (cursorStep wordShape O tokenTree c .1 ≡ c) × (cursorStep wordShape O peekTwoLeaves c .1 ≡ c)
   unfolding cursorStep
   looking c = go _ _ refl refl
     where

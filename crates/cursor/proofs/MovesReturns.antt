@@ -74,10 +74,11 @@ pub ruleset apply-cases = (apply-stay, apply-on, apply-shut, apply-enter, enter-
 below : (m n : ℕ) → m ≡ n → suc m ≤ n → ⊥
 below m n q h = omega arith
 
-kept : (f : Open → ℕ) (a : List ℕ) (d : ℕ) (os : List Open) → length os ≤ d → a ≡ written f a d os
+-- no more are open: nothing is written
+pub written-none : (f : Open → ℕ) (a : List ℕ) (d : ℕ) (os : List Open) → length os ≤ d → a ≡ written f a d os
 unfolding written
-kept f a d [] h = refl
-kept f a d (o ∷ os) h = let e : eqb (length os) d ≡ false = ne-eqb (length os) d (λ q. below (length os) d q h) in simp e
+written-none f a d [] h = refl
+written-none f a d (o ∷ os) h = let e : eqb (length os) d ≡ false = ne-eqb (length os) d (λ q. below (length os) d q h) in simp e
 
 drop-one : (os : List Open) → length (drop 1 os) ≡ length os - 1
 drop-one [] = refl
@@ -99,10 +100,10 @@ module _ (c : At) (ns cs ps : List ℕ) where
 
   array-is : (f : Open → ℕ) (a : List ℕ) (change : Change) → stored change a (c .depth) (f (newest change)) ≡ written f a (c .depth) (changed change (cursorOf c ns cs ps) .opened)
   unfolding stored changed countIn written
-  array-is f a changes.Stay = kept f a (c .depth) (opened ns cs ps (c .depth)) (omega (arith, size))
-  array-is f a (changes.On next) = kept f a (c .depth) (opened ns cs ps (c .depth)) (omega (arith, size))
+  array-is f a changes.Stay = written-none f a (c .depth) (opened ns cs ps (c .depth)) (omega (arith, size))
+  array-is f a (changes.On next) = written-none f a (c .depth) (opened ns cs ps (c .depth)) (omega (arith, size))
   array-is f a (changes.Open o) = let e : eqb (length (opened ns cs ps (c .depth))) (c .depth) ≡ true = eq-eqb _ _ size in simp e
-  array-is f a changes.Shut = kept f a (c .depth) (drop 1 (opened ns cs ps (c .depth))) (omega (arith, size, drop-one (opened ns cs ps (c .depth))))
+  array-is f a changes.Shut = written-none f a (c .depth) (drop 1 (opened ns cs ps (c .depth))) (omega (arith, size, drop-one (opened ns cs ps (c .depth))))
 
 -- ---- the open subtrees, by the arrays
 

@@ -9,6 +9,7 @@ use Rattle.format.specs.Word.{halfBytes, wordBytes, put}
 use Rattle.format.specs.Span.{Span}
 use Rattle.format.specs.Tree.{subtree}
 use Rattle.format.specs.Write.{join, byte, spanBytes, heavyBytes, symbolBytes, rootBytes, treeBytes}
+use Rattle.format.proofs.Kept.{kept}
 use Rattle.format.proofs.Put.{put-length}
 use Rattle.pack.specs.Packing.{SpanPacked}
 use Rattle.pack.specs.declared.Packed.{Packed}
@@ -121,9 +122,6 @@ module _ (b b₁ b₂ : List ℕ) (at : ℕ) where
 
   pub three-bytes : (x y z : ℕ) → b₁ ≡ put b at (x ∷ y ∷ []) → b₂ ≡ put b₁ (at + 2) (z ∷ []) → at + 3 ≤ length b → b₂ ≡ put b at (x ∷ y ∷ z ∷ [])
   three-bytes x y z e₁ e₂ h = put-2 b b₁ b₂ at (at + 2) (x ∷ y ∷ []) (z ∷ []) e₁ e₂ refl (omega arith)
-
-pub kept : (a b c : ℕ) → a ≡ b → b ≡ c → a ≡ c
-kept a b c e f = e ∙ f
 
 pub ruleset piece-cases = (never-place, never-stored, span-place, span-room, span-stored, two-put, three-bytes, heavy-contents, symbol-contents, kept)
 

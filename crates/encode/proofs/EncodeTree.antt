@@ -16,7 +16,7 @@ use Rattle.format.specs.Fields.{spanFits, isScalar, isRawKind, fields}
 use Rattle.format.specs.Write.{join, spanBytes, symbolBytes, rootBytes, treeBytes}
 use Rattle.format.specs.Pack.{roomFor}
 use Rattle.format.proofs.Each.{both, rule-passed, and-left, and-right, and₃, and₄}
-use Rattle.format.proofs.WriteSize.{heavy-size}
+use Rattle.format.proofs.WriteSize.{root-33}
 use Rattle.pack.specs.Answer.{spanOf, packedAnswer}
 use Rattle.pack.specs.declared.Packed.the-variants.{Written, Refused}
 use Rattle.tree.specs.Raw.{rawOf, punctRaw, identRaw, literalRaw, subtreeRaw}
@@ -82,14 +82,10 @@ module _ (b : List ℕ) (at m : ℕ) (t : Raw) (kids : ℕ) (y : Bool) (e : y �
         tree-written b′ i = record { answer = rw tree-passes (ap Written d); contents = i ∙ rw tree-passes }
 
 -- the root takes 33 bytes
-pub root-33 : (s t : Span) (n d k : ℕ) → 33 ≡ length (treeBytes 0 (subtree s t n d) k)
-unfolding treeBytes rootBytes
-root-33 s t n d k =
-    let a = heavy-size 0 s in
-    let b = heavy-size 0 t in
-    simp length-append (omega arith)
+pub root-size : (s t : Span) (n d k : ℕ) → 33 ≡ length (treeBytes 0 (subtree s t n d) k)
+root-size s t n d k = sym (root-33 (subtree s t n d) k refl)
 
-pub ruleset answer-cases = (room-past, room-short, room-there, tree-2, tree-8, tree-6, tree-passes, tree-written, root-33)
+pub ruleset answer-cases = (room-past, room-short, room-there, tree-2, tree-8, tree-6, tree-passes, tree-written, root-size)
 
 -- ---- what has passed
 
@@ -222,7 +218,7 @@ module _ (b : List ℕ) (at kids : ℕ) (p : RawSubtree) (e : packTree b at 0 (s
   pub root-room : at + 33 ≤ length b
   root-room =
       let r = passed-room b at 0 (subtreeRaw p) kids e in
-      omega (arith, root-33 (spanOf (p .opening)) (spanOf (p .closing)) (p .len .0) (p .kind) kids)
+      omega (arith, root-size (spanOf (p .opening)) (spanOf (p .closing)) (p .len .0) (p .kind) kids)
 
 pub ruleset passed-cases = (punct-ready, punct-room, punct-put, ident-ready, ident-room, ident-put, literal-ready, literal-room, literal-put, subtree-ready, subtree-room, subtree-put)
 

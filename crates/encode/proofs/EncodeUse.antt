@@ -5,8 +5,7 @@ use mathlib.Core.Path.{_≡_, refl, sym, _∙_}
 use mathlib.Core.List.{List}
 use borrow.Author.Tests.{le-leb, lt-ltb, ne-eqb}
 use lib.ListN.{length}
-use Rattle.format.specs.Verdict.{Verdict, passed, refused, report}
-use Rattle.format.specs.Verdict as verdict
+use Rattle.format.specs.Verdict.{passed}
 use Rattle.format.specs.Word.{put}
 use Rattle.format.specs.Span.{Span}
 use Rattle.format.specs.Tree.{Raw, punct, ident, literal, subtree}
@@ -15,7 +14,7 @@ use Rattle.format.specs.Write.{treeBytes}
 use Rattle.pack.specs.Answer.{packedAnswer}
 use Rattle.pack.specs.declared.Packed.{Packed}
 use Rattle.pack.specs.declared.Packed.the-variants.{Written, Refused}
-use Rattle.pack.proofs.Use.{never}
+use Rattle.pack.proofs.Use.{written-same, unchanged}
 use Rattle.encode.specs.Encode.{indices, packTree, TreePacked}
 
 -- every tree number but 0 gives the bytes that 1 gives
@@ -39,14 +38,6 @@ module _ (s : Span) (h : s .index < 268435456) where
 
   pub subtree-indices : (t : Span) (n d : ℕ) → t .index < 268435456 → indices (subtree s t n d) ≡ true
   subtree-indices t n d g = simp (lt-ltb _ _ h, lt-ltb _ _ g)
-
-written-same : (m n : ℕ) → Written m ≡ Written n → m ≡ n
-written-same m n e = cc
-
-unchanged : (v : Verdict) (n k : ℕ) (b c : List ℕ) → Refused k ≡ packedAnswer (report v n) → verdict.contents v b c ≡ b
-unfolding packedAnswer
-unchanged passed n k b c e = never (Refused k) n k e refl
-unchanged (refused i j) n k b c e = refl
 
 module _ (b : List ℕ) (at m : ℕ) (t : Raw) (kids : ℕ) (r : Packed) (b′ : List ℕ) (p : TreePacked b at m t kids r b′) where
   -- a refusal changes nothing

@@ -5,12 +5,7 @@ use mathlib.Core.List.{List, [], _∷_, _++_}
 use native.Mathlib.Omega.{arith}
 use lib.ListN.{length, getD, take, drop, length-drop}
 use lib.Seq.{take-all, take-add, getD-drop}
-use Rattle.format.specs.WordList.{wordOf, thirteen, listCount, given}
-
--- the words of trees 0 to k - 1
-unfoldable pub wordsUpTo : (ℕ → List ℕ) → ℕ → List ℕ
-wordsUpTo f zero = []
-wordsUpTo f (suc k) = wordsUpTo f k ++ f k
+use Rattle.format.specs.WordList.{wordOf, thirteen, wordsUpTo, listCount, given}
 
 pub words-same : (f g : ℕ → List ℕ) (k : ℕ) → ((n : ℕ) → n < k → f n ≡ g n) → wordsUpTo f k ≡ wordsUpTo g k
 unfolding wordsUpTo

@@ -1,10 +1,12 @@
 -- Making tables into lent runs: when it passes, what the runs hold, and that the writer takes the tables.
 use Prim.Native.Nat.{ℕ, _+_, _<_, _≤_}
-use mathlib.Core.Path.{_≡_, refl}
+use mathlib.Core.Path.{_≡_, refl, ap, _∙_}
 use mathlib.Core.Bool.{Bool, true, false, _&&_}
 use mathlib.Core.List.{List}
 use native.Mathlib.Omega.{arith}
-use lib.ListN.{length, getD, drop, List·getD-append}
+use native.Mathlib.Nat.{zero-add}
+use lib.ListN.{length, getD, take, drop, List·getD-append}
+use lib.Seq.{take-append-seam, drop-append-seam}
 use lib.Dec.{leb}
 use borrow.Author.Tests.{le-leb, leb-true}
 use Rattle.format.specs.Verdict.{passed, refused, rule}
@@ -77,3 +79,12 @@ module _ (b vs : List ℕ) (h : length vs ≤ length b) where
 
   pub run-behind : (i : ℕ) → length vs ≤ i → getD (put b 0 vs) i 0 ≡ getD b i 0
   run-behind i g = put-after b 0 vs (omega arith) i (omega arith)
+
+module _ (b vs : List ℕ) where
+  pub run-take : take (length vs) (put b 0 vs) ≡ vs
+  unfolding put
+  run-take = take-append-seam vs (drop (0 + length vs) b)
+
+  pub run-drop : drop (length vs) (put b 0 vs) ≡ drop (length vs) b
+  unfolding put
+  run-drop = drop-append-seam vs (drop (0 + length vs) b) ∙ ap (λ (n : ℕ). drop n b) (zero-add (length vs))

@@ -7,6 +7,7 @@ use native.Mathlib.Omega.{arith}
 use lib.ListN.{length, getD, set, replicate, length-replicate, List·getD-eq-default}
 use lib.Seq.{set-out}
 use Rattle.format.specs.Test.{if_then_else_}
+pub use Rattle.format.proofs.Kept.{kept}
 
 pub differ : {A : Type 0} → true ≡ false → A
 differ e = let z : _≡_ {A = ℕ} 0 1 = ap (λ (b : Bool). if b then 0 else 1) e in absurd (omega arith)
@@ -40,7 +41,7 @@ zeros-pos t h = rw (length-replicate {A = ℕ} t 0) h
 pub zeros-most : (t m : ℕ) → t ≤ m → length (replicate {A = ℕ} t 0) ≤ m
 zeros-most t m h = rw (length-replicate {A = ℕ} t 0) h
 
--- ---- a length that is kept
+-- ---- lengths that are kept
 
 pub le-kept : (p a b : ℕ) → p ≤ a → b ≡ a → p ≤ b
 le-kept p a b h e = omega arith

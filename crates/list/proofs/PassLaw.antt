@@ -4,11 +4,9 @@ use mathlib.Core.Bool.{Bool, true, false}
 use mathlib.Core.Path.{_≡_, refl, sym, ap, _∙_}
 use mathlib.Core.List.{List, [], _∷_}
 use native.Mathlib.Omega.{arith}
-use native.Mathlib.Numerals.{add-one}
 use borrow.Author.Tests.{le-leb, lt-leb, lt-ltb, le-ltb, leb-true}
 use lib.Dec.{leb, ltb}
 use lib.ListN.{length, getD, set}
-use lib.Seq.{getD-set-same, getD-set-other}
 use Rattle.format.specs.Test.{if_then_else_}
 use Rattle.format.specs.Verdict.{Verdict, passed, refused}
 use Rattle.format.specs.Nest.{stillOpen, innermost, nestFrom}
@@ -16,7 +14,7 @@ use Rattle.format.specs.Buffer.{wordShape}
 use Rattle.format.specs.WordList.{wordOf, listCount, given}
 use Rattle.format.specs.Writer.{find}
 use Rattle.format.proofs.First.{find-at, find-from, find-to}
-use Rattle.list.specs.Pass.{isSub, nextSub, passFrom, openEnds}
+use Rattle.list.specs.Pass.{isSub, nextSub, passFrom}
 
 -- ---- the open ends
 
@@ -32,30 +30,6 @@ still-still n q h (e ∷ es) = go (leb e n) refl (still-still n q h es)
         let u = le-leb e q (omega arith) in
         simp (t, u) rec
     go false t rec = simp t
-
-pub length-open : (d : ℕ) (ends : List ℕ) → length (openEnds d ends) ≡ d
-unfolding openEnds
-length-open zero ends = refl
-length-open (suc d) ends = ap suc (length-open d ends)
-
--- a store past them
-open-set : (d i e : ℕ) (ends : List ℕ) → d ≤ i → openEnds d (set ends i e) ≡ openEnds d ends
-unfolding openEnds
-open-set zero i e ends h = refl
-open-set (suc d) i e ends h =
-    let a = getD-set-other ends i d e 0 (λ q. absurd (omega arith)) in
-    rw (a, open-set d i e ends (omega arith))
-
--- one more is opened
-pub open-more : (d e : ℕ) (ends : List ℕ) → d < length ends → openEnds (d + 1) (set ends d e) ≡ e ∷ openEnds d ends
-unfolding openEnds
-open-more d e ends h = rw (add-one d) (rw (getD-set-same ends d e 0 h, open-set d d e ends (omega arith)))
-
--- the innermost of them
-pub open-suc : (d : ℕ) (ends : List ℕ) → 0 < d → openEnds d ends ≡ getD ends (d - 1) 0 ∷ openEnds (d - 1) ends
-unfolding openEnds
-open-suc zero ends h = absurd (omega arith)
-open-suc (suc d) ends h = let e : suc d - 1 ≡ d = omega arith in rw e
 
 -- ---- the pass, tree by tree
 

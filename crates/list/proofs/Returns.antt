@@ -11,19 +11,20 @@ use lib.ListN.{length, getD, set}
 use Rattle.format.specs.Test.{if_then_else_}
 use Rattle.format.specs.Verdict as format
 use Rattle.format.specs.Verdict.{passed, refused, _andThen_, eachFrom}
-use Rattle.format.specs.Nest.{stillOpen, innermost, nest}
+use Rattle.format.specs.Nest.{stillOpen, openEnds, innermost, nest}
 use Rattle.format.specs.Buffer.{wordShape}
 use Rattle.format.specs.Holding.{holdingAll}
 use Rattle.format.specs.WordList.{wordOf, wordFields, listCount, given, listSized, listRules, listRows}
 use Rattle.format.proofs.Each.{and₃, and-left, and-right}
 use Rattle.format.proofs.Holding.{holding-leaf, holding-same, holding-two, holding-nest}
 use Rattle.format.proofs.NestLaw.{still-above, still-below}
+use Rattle.format.proofs.OpenEnds.{open-length, open-more, open-suc}
 use Rattle.tree.specs.Refusal.{verdictAnswer}
 use Rattle.tree.specs.declared.refusal.Refusal.{Refusal}
 use Rattle.tree.specs.declared.refusal.Verdict.{Verdict}
 use Rattle.tree.specs.declared.refusal.Verdict.the-variants.{Passed, Refused}
-use Rattle.list.specs.Pass.{fieldsFrom, isSub, nextSub, isRooted, passFrom, nestBelow, nestRow, openEnds}
-use Rattle.list.proofs.PassLaw.{length-open, open-more, open-suc, pass-three, pass-four, pass-sub, pass-end, pass-next, next-sub, next-most, next-least, next-past, next-here, next-end}
+use Rattle.list.specs.Pass.{fieldsFrom, isSub, nextSub, isRooted, passFrom, nestBelow, nestRow}
+use Rattle.list.proofs.PassLaw.{pass-three, pass-four, pass-sub, pass-end, pass-next, next-sub, next-most, next-least, next-past, next-here, next-end}
 
 -- ---- answers
 
@@ -92,27 +93,27 @@ pub ruleset next-cases = (next-stops, next-found, next-goes)
 
 -- ---- the open ends
 
-module _ (ends : List ℕ) (n depth d : ℕ) (e : stillOpen n (openEnds depth ends) ≡ stillOpen n (openEnds d ends)) where
-  pub none-open : d ≤ 0 → openEnds d ends ≡ stillOpen n (openEnds depth ends)
+module _ (ends : List ℕ) (n depth d : ℕ) (e : stillOpen n (openEnds ends depth) ≡ stillOpen n (openEnds ends d)) where
+  pub none-open : d ≤ 0 → openEnds ends d ≡ stillOpen n (openEnds ends depth)
   unfolding openEnds stillOpen
   none-open h = let z : d ≡ 0 = omega arith in sym (e ∙ rw z)
 
   module _ (h : 0 < d) (x : ℕ) (f : x ≡ getD ends (d - 1) 0) where
-    pub stays-open : n < x → openEnds d ends ≡ stillOpen n (openEnds depth ends)
-    stays-open k = sym (e ∙ ap (stillOpen n) (open-suc d ends h) ∙ still-above n (getD ends (d - 1) 0) (openEnds (d - 1) ends) (omega arith) ∙ sym (open-suc d ends h))
+    pub stays-open : n < x → openEnds ends d ≡ stillOpen n (openEnds ends depth)
+    stays-open k = sym (e ∙ ap (stillOpen n) (open-suc ends d h) ∙ still-above n (getD ends (d - 1) 0) (openEnds ends (d - 1)) (omega arith) ∙ sym (open-suc ends d h))
 
-    pub is-shut : x ≤ n → stillOpen n (openEnds depth ends) ≡ stillOpen n (openEnds (d - 1) ends)
-    is-shut k = e ∙ ap (stillOpen n) (open-suc d ends h) ∙ still-below n (getD ends (d - 1) 0) (openEnds (d - 1) ends) (omega arith)
+    pub is-shut : x ≤ n → stillOpen n (openEnds ends depth) ≡ stillOpen n (openEnds ends (d - 1))
+    is-shut k = e ∙ ap (stillOpen n) (open-suc ends d h) ∙ still-below n (getD ends (d - 1) 0) (openEnds ends (d - 1)) (omega arith)
 
 pub ruleset open-cases = (none-open, stays-open, is-shut)
 
 module _ (ends : List ℕ) (depth count : ℕ) where
-  pub end-of-list : depth ≡ 0 → count ≡ innermost count (openEnds depth ends)
+  pub end-of-list : depth ≡ 0 → count ≡ innermost count (openEnds ends depth)
   unfolding openEnds
   end-of-list h = rw h
 
-  pub end-of-one : (depth ≡ 0 → ⊥) → (x : ℕ) → x ≡ getD ends (depth - 1) 0 → x ≡ innermost count (openEnds depth ends)
-  end-of-one h x e = e ∙ sym (ap (innermost count) (open-suc depth ends (omega arith)))
+  pub end-of-one : (depth ≡ 0 → ⊥) → (x : ℕ) → x ≡ getD ends (depth - 1) 0 → x ≡ innermost count (openEnds ends depth)
+  end-of-one h x e = e ∙ sym (ap (innermost count) (open-suc ends depth (omega arith)))
 
 pub ruleset around-cases = (end-of-list, end-of-one)
 
@@ -144,7 +145,7 @@ pub ruleset root-cases = (root-sort, root-part, root-whole)
 
 -- the pass has come to tree n, a subtree or the end, with these ends open
 pub record Passing (l : List ℕ) (n depth : ℕ) (ends : List ℕ) : Type 0 where
-  same : nestBelow l ≡ passFrom l n (openEnds depth ends)
+  same : nestBelow l ≡ passFrom l n (openEnds ends depth)
   here : n < listCount l → isSub l n ≡ true
 
 pub first-most : (l : List ℕ) (m : ℕ) → m ≡ nextSub l 1 → 1 ≤ listCount l → m ≤ listCount l
@@ -166,36 +167,36 @@ pass-starts l ends n e h f =
 
 module _ (l ends : List ℕ) (n depth : ℕ) (p : Passing l n depth ends) where
   pub pass-ends : listCount l ≤ n → Passed ≡ verdictAnswer (nestBelow l)
-  pass-ends h = passed-answer ∙ ap verdictAnswer (sym (p .same ∙ pass-end l n (openEnds depth ends) h))
+  pass-ends h = passed-answer ∙ ap verdictAnswer (sym (p .same ∙ pass-end l n (openEnds ends depth) h))
 
-  module _ (h : n < listCount l) (d : ℕ) (o : openEnds d ends ≡ stillOpen n (openEnds depth ends)) (a : ℕ) (f : a ≡ innermost (listCount l) (openEnds d ends))
+  module _ (h : n < listCount l) (d : ℕ) (o : openEnds ends d ≡ stillOpen n (openEnds ends depth)) (a : ℕ) (f : a ≡ innermost (listCount l) (openEnds ends d))
       (e : ℕ) (g : e ≡ n + 1 + wordOf l n 1) where
-    around : a ≡ innermost (listCount l) (stillOpen n (openEnds depth ends))
+    around : a ≡ innermost (listCount l) (stillOpen n (openEnds ends depth))
     around = f ∙ ap (innermost (listCount l)) o
 
-    deep : length (stillOpen n (openEnds depth ends)) ≡ d
-    deep = ap length (sym o) ∙ length-open d ends
+    deep : length (stillOpen n (openEnds ends depth)) ≡ d
+    deep = ap length (sym o) ∙ open-length ends d
 
     pub passes-end : a < e → (v : Verdict) → v ≡ verdictAnswer (refused 3 n) → v ≡ verdictAnswer (nestBelow l)
     passes-end k v q =
         let u = around in
-        q ∙ ap verdictAnswer (sym (p .same ∙ pass-three l n (openEnds depth ends) h (p .here h) (omega arith)))
+        q ∙ ap verdictAnswer (sym (p .same ∙ pass-three l n (openEnds ends depth) h (p .here h) (omega arith)))
 
     module _ (k : e ≤ a) where
       pub too-deep : 256 ≤ d → (v : Verdict) → v ≡ verdictAnswer (refused 4 n) → v ≡ verdictAnswer (nestBelow l)
       too-deep i v q =
           let u = around in
           let w = deep in
-          q ∙ ap verdictAnswer (sym (p .same ∙ pass-four l n (openEnds depth ends) h (p .here h) (omega arith) (omega arith)))
+          q ∙ ap verdictAnswer (sym (p .same ∙ pass-four l n (openEnds ends depth) h (p .here h) (omega arith) (omega arith)))
 
       pub pass-goes : d < 256 → (x : ℕ) → length ends ≡ x → x ≡ 256 → (m : ℕ) → m ≡ nextSub l (n + 1) → Passing l m (d + 1) (set ends d e)
       pass-goes i x y z m r =
           let u = around in
           let w = deep in
           record {
-            same = p .same ∙ pass-sub l n (openEnds depth ends) h (p .here h) (omega arith) (omega arith) ∙
-                ap (passFrom l (n + 1)) (rw (← g, ← o) (sym (open-more d e ends (omega arith)))) ∙
-                pass-next l (n + 1) (openEnds (d + 1) (set ends d e)) (omega arith) ∙ rw r;
+            same = p .same ∙ pass-sub l n (openEnds ends depth) h (p .here h) (omega arith) (omega arith) ∙
+                ap (passFrom l (n + 1)) (rw (← g, ← o) (sym (open-more ends d e (omega arith)))) ∙
+                pass-next l (n + 1) (openEnds (set ends d e) (d + 1)) (omega arith) ∙ rw r;
             here = λ j. rw r (next-sub l (n + 1) (omega arith) (rw r at j));
           }
 

@@ -1,8 +1,7 @@
--- Rows 2 to 4 from a tree on, and the ends that a pass keeps in an array.
-use Prim.Native.Nat.{ℕ, zero, suc, _-_}
+-- Rows 2 to 4 from a tree on.
+use Prim.Native.Nat.{ℕ, _-_}
 use mathlib.Core.Bool.{Bool}
 use mathlib.Core.List.{List, [], _∷_}
-use lib.ListN.{getD}
 use Rattle.format.specs.Verdict.{Verdict, eachFrom}
 use Rattle.format.specs.Plain.{sub}
 use Rattle.format.specs.Nest.{nestFrom, rooted, nest}
@@ -36,8 +35,3 @@ module _ (l : List ℕ) where
   -- rows 3 and 4 over the whole list
   unfoldable pub nestRow : Verdict
   nestRow = nest wordShape (given l)
-
--- the first so many ends of an array, the innermost first
-unfoldable pub openEnds : ℕ → List ℕ → List ℕ
-openEnds zero ends = []
-openEnds (suc d) ends = getD ends d 0 ∷ openEnds d ends

@@ -7,10 +7,10 @@ ghost use mathlib.Core.Path.{_≡_};
 ghost use Prim.Native.Nat.{_+_, _<_, _≤_};
 ghost use lib.ListN.{length, getD};
 ghost use Rattle.format.specs.Holding.{holdingAll};
-ghost use Rattle.format.specs.Nest.{stillOpen, innermost};
+ghost use Rattle.format.specs.Nest.{stillOpen, openEnds, innermost};
 ghost use Rattle.format.specs.Verdict.{refused};
 ghost use Rattle.format.specs.WordList.{wordOf, listCount, listRules};
-ghost use Rattle.list.specs.Pass.{fieldsFrom, nextSub, isRooted, nestBelow, nestRow, openEnds};
+ghost use Rattle.list.specs.Pass.{fieldsFrom, nextSub, isRooted, nestBelow, nestRow};
 ghost use Rattle.tree.specs.Refusal.{verdictAnswer};
 
 // How many subtrees may be open at once.
@@ -65,8 +65,8 @@ fn next_subtree(l: &[u32], from: usize) -> usize
 // How many of the open subtrees, the outermost first, end after tree n.
 fn still_open(ends: &[u32], depth: usize, n: usize) -> usize
     requires { ⌜ depth ≤ length (now ends) ⌝ }
-    ensures { λ r. ⌜ (r ≤ depth) × (openEnds r (now (ends .entry)) ≡ stillOpen n
-        (openEnds depth (now (ends .entry)))) ⌝ }
+    ensures { λ r. ⌜ (r ≤ depth) × (openEnds (now (ends .entry)) r ≡ stillOpen n
+        (openEnds (now (ends .entry)) depth)) ⌝ }
 {
     let mut d = depth;
     while 0 < d {
@@ -81,7 +81,7 @@ fn still_open(ends: &[u32], depth: usize, n: usize) -> usize
 // The end of the innermost open subtree, or of the list.
 fn end_around(ends: &[u32], depth: usize, count: usize) -> usize
     requires { ⌜ (depth ≤ length (now ends)) × (count < 4294967296) ⌝ }
-    ensures { λ r. ⌜ (r ≡ innermost count (openEnds depth (now (ends .entry)))) × (r < 4294967296) ⌝ }
+    ensures { λ r. ⌜ (r ≡ innermost count (openEnds (now (ends .entry)) depth)) × (r < 4294967296) ⌝ }
 {
     if depth == 0 {
         return count;

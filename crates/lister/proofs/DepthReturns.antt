@@ -1,14 +1,12 @@
 -- One law for each return, call and turn of the loop of the functions over the stack of ends.
 use Prim.Native.Nat.{ℕ, zero, suc, _+_, _-_, _≤_, _<_}
-use mathlib.Core.Path.{_≡_, refl, sym, ap, _∙_, subst}
-use mathlib.Core.Logic.{_≢_}
+use mathlib.Core.Path.{_≡_, refl, sym, _∙_, subst}
 use mathlib.Core.List.{List}
 use native.Mathlib.Omega.{arith}
-use native.Mathlib.Numerals.{add-one}
 use lib.ListN.{set, getD, length-set}
-use lib.Seq.{getD-set-same, getD-set-other}
-use Rattle.format.specs.Nest.{stillOpen}
+use Rattle.format.specs.Nest.{stillOpen, openEnds}
 use Rattle.format.proofs.NestLaw.{still-above, still-below}
+use Rattle.format.proofs.OpenEnds.{open-more}
 use Rattle.tree.specs.Raw.{rawOf}
 use Rattle.tree.specs.declared.raw.RawPunct.{RawPunct}
 use Rattle.tree.specs.declared.raw.RawIdent.{RawIdent}
@@ -16,7 +14,7 @@ use Rattle.tree.specs.declared.raw.RawLiteral.{RawLiteral}
 use Rattle.tree.specs.declared.raw.RawSubtree.{RawSubtree}
 use Rattle.tree.specs.declared.raw.RawTree.{RawTree}
 use Rattle.tree.specs.declared.raw.RawTree.the-variants.{Punct, Ident, Literal, Subtree}
-use Rattle.lister.specs.Ends.{openEnds, Closed, Opens, Pushed}
+use Rattle.lister.specs.Ends.{Closed, Opens, Pushed}
 
 -- ---- still_open
 
@@ -55,15 +53,6 @@ pub ruleset close-cases = (close-start, close-stop, close-on, close-end)
 
 -- ---- open_tree
 
-open-set : (ends : List ℕ) (d e j : ℕ) → j ≤ d → openEnds (set ends d e) j ≡ openEnds ends j
-unfolding openEnds
-open-set ends d e zero h = refl
-open-set ends d e (suc j) h =
-    let i : j ≢ d = λ q. absurd (omega arith) in
-    let a = getD-set-other ends d j e 0 i in
-    let r = open-set ends d e j (omega arith) in
-    rw (a, r)
-
 module _ (ends : List ℕ) (depth n : ℕ) (t : RawTree) (o : Opens ends depth n (rawOf t)) where
   pub push-punct : (p : RawPunct) → t ≡ Punct p → Pushed ends depth n (rawOf t) depth ends
   unfolding rawOf
@@ -91,9 +80,7 @@ module _ (ends : List ℕ) (depth n : ℕ) (p : RawSubtree) where
   is-pushed o =
       let r = is-room o in
       let l = o .size in
-      let a = getD-set-same ends depth (n + 1 + p .len .0) 0 (omega arith) in
-      let s = open-set ends depth (n + 1 + p .len .0) depth (omega arith) in
-      record { size = length-set ends depth (n + 1 + p .len .0) ∙ l; few = omega arith; left = ap (openEnds (set ends depth (n + 1 + p .len .0))) (add-one depth) ∙ rw (a, s) }
+      record { size = length-set ends depth (n + 1 + p .len .0) ∙ l; few = omega arith; left = open-more ends depth (n + 1 + p .len .0) (omega arith) }
 
   module _ (t : RawTree) (e : t ≡ Subtree p) (o : Opens ends depth n (rawOf t)) where
     opens : Opens ends depth n (rawOf (Subtree p))

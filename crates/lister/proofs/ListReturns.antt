@@ -1,6 +1,6 @@
 -- One law for each return and call of the functions that list a buffer and a bundle.
-use Prim.Native.Nat.{ℕ, zero, suc, _+_, _-_, _≤_, _<_}
-use mathlib.Core.Path.{_≡_, refl, sym, ap, _∙_, subst}
+use Prim.Native.Nat.{ℕ, _+_, _-_, _≤_, _<_}
+use mathlib.Core.Path.{_≡_, sym, ap, _∙_, subst}
 use mathlib.Core.List.{List, _++_}
 use native.Mathlib.Omega.{arith}
 use borrow.Author.Tests.{lt-ltb, le-ltb}
@@ -8,37 +8,33 @@ use lib.ListN.{length, take, drop}
 use lib.Seq.{length-take-le}
 use Rattle.format.specs.Verdict as format
 use Rattle.format.specs.Tree.{Raw}
-use Rattle.format.specs.Nest.{stillOpen}
+use Rattle.format.specs.Nest.{stillOpen, openEnds}
 use Rattle.format.specs.Check.{check}
 use Rattle.format.specs.Buffer.{rawShape, sizeReader}
 use Rattle.format.specs.Bundle.{bundleAt, checkOf}
 use Rattle.format.specs.Lister.{refusalLine, header, line, bundleText, listerText}
 use Rattle.io.specs.Counts.{Counts}
 use Rattle.text.specs.Typed.{Typed}
+use Rattle.format.proofs.OpenEnds.{open-length}
 use Rattle.text.proofs.Typed.{next-inside, typed-then, typed-as, typed-whole}
 use Rattle.tree.specs.Refusal.{verdictAnswer}
+use Rattle.tree.proofs.Answers.{answer-passed, answer-refused}
 use Rattle.tree.specs.declared.refusal.Refusal.{Refusal}
 use Rattle.tree.specs.declared.refusal.Verdict.{Verdict}
 use Rattle.tree.specs.declared.refusal.Verdict.the-variants.{Passed, Refused}
-use Rattle.checker.proofs.Admits.{answer-passed, answer-refused}
 use Rattle.bundle.specs.Answer.{readAnswer}
 use Rattle.bundle.specs.declared.read.Contents.{Contents}
 use Rattle.bundle.specs.declared.read.BundleRead.{BundleRead}
 use Rattle.bundle.specs.declared.read.BundleRead.the-variants.{Bundle, Bad}
 use Rattle.bundle.proofs.Told.{rest-of, told, is-bad, start-inside}
 use Rattle.lister.specs.BySizes.{sortOf, sizeLines, orRefusal, sizesText}
-use Rattle.lister.specs.Ends.{openEnds, Closed, push, Opens, Pushed, Follows}
+use Rattle.lister.specs.Ends.{Closed, push, Opens, Pushed, Follows}
 use Rattle.lister.specs.TreePut.{TreePut}
 use Rattle.lister.proofs.Listed.{listed-none, listed-inside, listed-kept, listed-few, listed-all, listed-bad, listed-follows, listed-next}
 use Rattle.lister.proofs.Length.{refusal-few, passed-few}
 use Rattle.lister.proofs.BySizes.{bundle-text}
 
 -- ---- put_tree
-
-open-length : (ends : List ℕ) (d : ℕ) → length (openEnds ends d) ≡ d
-unfolding openEnds
-open-length ends zero = refl
-open-length ends (suc d) = ap suc (open-length ends d)
 
 module _ (ends : List ℕ) (depth n : ℕ) (t : Raw) (f : Follows ends depth n t) where
   pub tree-few : depth ≤ 256

@@ -14,7 +14,7 @@ use Rattle.format.specs.Reader.{Shape, Reader, got, bad}
 use Rattle.format.specs.Tree.{Raw, isSubtree, countOf, treeAt}
 use Rattle.format.specs.Plain.{Listing, endOf, sub}
 use Rattle.format.specs.Laws.{around, Nested}
-use Rattle.format.specs.Nest.{stillOpen}
+use Rattle.format.specs.Nest.{stillOpen, openEnds}
 use Rattle.format.specs.Check.{check, placeOf, reading, listing, treeOf, nextOf, Admitted}
 use Rattle.format.specs.Tables.{countRules}
 use Rattle.format.specs.Buffer.{rawShape, judge, sizeReader}
@@ -30,7 +30,7 @@ use Rattle.tree.specs.declared.raw.RawRead.{RawRead}
 use Rattle.tree.specs.declared.raw.RawRead.the-variants.{Got, Bad}
 use Rattle.decode.proofs.ReadUse.{reply-got, reply-bad}
 use Rattle.lister.specs.BySizes.{sortOf, sizeLines}
-use Rattle.lister.specs.Ends.{openEnds, push, Follows}
+use Rattle.lister.specs.Ends.{push, Follows}
 use Rattle.lister.specs.TreePut.{TreePut}
 use Rattle.lister.specs.declared.list.Done.{Done}
 use Rattle.lister.proofs.Opened.{Opened, opened-none, opened-depth, opened-leaf, opened-sub}

@@ -1,17 +1,12 @@
 -- The lister's stack of the ends of open subtrees, as a list whose first is the innermost's.
-use Prim.Native.Nat.{ℕ, zero, suc, _+_, _≤_, _<_}
+use Prim.Native.Nat.{ℕ, _+_, _≤_, _<_}
 use mathlib.Core.Bool.{true}
 use mathlib.Core.Path.{_≡_}
-use mathlib.Core.List.{List, [], _∷_}
-use lib.ListN.{length, getD}
+use mathlib.Core.List.{List, _∷_}
+use lib.ListN.{length}
 use Rattle.format.specs.Test.{if_then_else_}
-use Rattle.format.specs.Nest.{stillOpen}
+use Rattle.format.specs.Nest.{stillOpen, openEnds}
 use Rattle.format.specs.Tree.{Raw, isSubtree, countOf}
-
--- the first so many of an array, from the last to the first
-unfoldable pub openEnds : List ℕ → ℕ → List ℕ
-openEnds ends zero = []
-openEnds ends (suc d) = getD ends d 0 ∷ openEnds ends d
 
 -- those that tree n is past are closed
 pub record Closed (ends : List ℕ) (depth n r : ℕ) : Type 0 where

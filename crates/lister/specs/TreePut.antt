@@ -4,12 +4,12 @@ use mathlib.Core.Path.{_≡_}
 use mathlib.Core.List.{List}
 use lib.ListN.{length}
 use Rattle.format.specs.Tree.{Raw}
-use Rattle.format.specs.Nest.{stillOpen}
+use Rattle.format.specs.Nest.{stillOpen, openEnds}
 use Rattle.format.specs.Lister.{line}
 use Rattle.text.specs.Typed.{Typed}
 use Rattle.lister.specs.declared.list.Done.{Done}
 use Rattle.lister.specs.BySizes.{sortOf}
-use Rattle.lister.specs.Ends.{openEnds, push}
+use Rattle.lister.specs.Ends.{push}
 
 pub record TreePut (out : List ℕ) (at : ℕ) (ends : List ℕ) (depth n first : ℕ) (t : Raw) (r : Done) (out′ ends′ : List ℕ) : Type 0 where
   pub size : length ends′ ≡ 256

@@ -12,6 +12,7 @@ use Rattle.format.specs.Span.{Span}
 use Rattle.format.specs.Write.{firstWord, secondWord, heavySecond, heavyThird, heavyBytes, spanBytes, symbolBytes}
 use Rattle.format.specs.Pack.{spanForm}
 use Rattle.format.proofs.Each.{and₃}
+use Rattle.format.proofs.Kept.{kept}
 use Rattle.pack.specs.Answer.{packedAnswer, allBelow}
 use Rattle.pack.specs.Packing.{Stored, SpanPacked, SymbolPacked, extendedBytes}
 use Rattle.pack.specs.declared.Packed.{Packed}
@@ -54,9 +55,6 @@ module _ (b b₁ : List ℕ) (at x w : ℕ) (s : Span) (r : ℕ) (e : r ≡ leng
         with-room b at (heavyBytes x s) b₃ (omega arith) (e₃ ∙ rw (e₂, e₁, p, q, f, g, k))
 
 -- the first store keeps the length, and so does the second
-pub kept : (a b c : ℕ) → a ≡ b → b ≡ c → a ≡ c
-kept a b c e f = e ∙ f
-
 pub ruleset pack-word-cases = (no-room, no-room-heavy, small-written, extended-written, heavy-written, kept)
 
 -- ---- the form that is chosen

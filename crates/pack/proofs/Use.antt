@@ -163,11 +163,11 @@ pub ruleset read-cases = (span-cut, span-read, span-after, span-inside, span-ext
 pub never : {A : Type 0} (r : Packed) (n k : ℕ) → r ≡ Written n → r ≡ Refused k → A
 never r n k p q = let z : _≡_ {A = ℕ} 0 1 = cc in absurd (omega arith)
 
-written-same : (m n : ℕ) → Written m ≡ Written n → m ≡ n
+pub written-same : (m n : ℕ) → Written m ≡ Written n → m ≡ n
 written-same m n e = cc
 
 -- a refusal changes nothing
-unchanged : (v : Verdict) (n k : ℕ) (b c : List ℕ) → Refused k ≡ packedAnswer (report v n) → verdict.contents v b c ≡ b
+pub unchanged : (v : Verdict) (n k : ℕ) (b c : List ℕ) → Refused k ≡ packedAnswer (report v n) → verdict.contents v b c ≡ b
 unfolding packedAnswer
 unchanged passed n k b c e = never (Refused k) n k e refl
 unchanged (refused i j) n k b c e = refl

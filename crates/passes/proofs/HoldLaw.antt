@@ -21,7 +21,8 @@ use Rattle.encode.specs.Encode.{indices}
 use Rattle.passes.specs.Tail.{restOf, sizeFrom, kidsOf, bytesAt}
 use Rattle.passes.specs.Run.{Sized}
 use Rattle.passes.specs.Passed.{Passed}
-use Rattle.passes.proofs.TailLaw.{size-is, raw-fields, raw-indices, raw-ends, root-33, root-subtree, root-size}
+use Rattle.passes.proofs.TailLaw.{size-is, raw-fields, raw-indices, raw-ends, root-subtree, root-size}
+use Rattle.format.proofs.WriteSize.{root-33}
 
 -- the bytes from tree 1 on do not turn on the root
 tail-of : (p s q : List ℕ) (j m : ℕ) → listCount q ≡ suc j → restOf p s q (suc m) ≡ getD (suffixes (0 + 1) (raws p s q j (0 + 1))) m []
@@ -104,7 +105,7 @@ module _ (p s l : List ℕ) (ok : Passed p s l) where
   pub top-size : length (bytesAt p s l 0) ≡ 33
   unfolding bytesAt
   top-size =
-      root-33 p s l (rawOf p s l 0) (kidsOf p s l 0)
+      root-33 (rawOf p s l 0) (kidsOf p s l 0)
       (sym (same-sort _ _ _ (wordOf (holdingAll l) 0) (wordOf l 0) (holding-other l 0 (λ e. absurd (omega arith)))) ∙ root-subtree p s (holdingAll l) (ok .rows))
 
   pub hold-size : (n : ℕ) → sizeFrom p s (holdingAll l) n ≡ sizeFrom p s l n

@@ -17,13 +17,11 @@ use Rattle.format.specs.Write.{treeBytes, suffixes, write, workWords}
 use Rattle.format.specs.Tables.{partCount, ownTables, treeWords}
 use Rattle.format.specs.WordList.{wordOf, rawFrom, listCount, listRules}
 use Rattle.format.specs.Writer.{rawOf, raws, trees, packed, listVerdict}
-use Rattle.format.proofs.Each.{true-false}
 use Rattle.format.proofs.WriteLaw.{Lawful, suffix-at, suffix-end}
-use Rattle.format.proofs.WriteSize.{write-size}
+use Rattle.format.proofs.WriteSize.{root-33, raws-length, packed-most}
 use Rattle.format.proofs.TreeBack.{Writable}
 use Rattle.format.proofs.WriterLaw.{lawful}
 use Rattle.encode.specs.Encode.{indices}
-use Rattle.encode.proofs.EncodeTree.{root-33 as subtree-33}
 use Rattle.encode.proofs.EncodeUse.{punct-indices, ident-indices, literal-indices, subtree-indices}
 use Rattle.passes.specs.Tail.{restOf, sizeFrom, kidsOf, bytesAt, headOf}
 
@@ -33,11 +31,6 @@ none = punct (record { index = 0; start = 0; len = 0 }) 0 0
 
 module _ (parts symbols l : List ℕ) where
   -- ---- the trees
-
-  raws-length : (j n : ℕ) → length (raws parts symbols l j n) ≡ j
-  unfolding raws
-  raws-length zero n = refl
-  raws-length (suc j) n = ap suc (raws-length j (n + 1))
 
   raws-at : (j n i : ℕ) → i < j → getD (raws parts symbols l j n) i none ≡ rawOf parts symbols l (n + i)
   unfolding raws
@@ -56,7 +49,7 @@ module _ (parts symbols l : List ℕ) where
       → restOf parts symbols l n ≡ treeBytes n t (sizeFrom parts symbols l m - sizeFrom parts symbols l (m + countOf t)) ++ restOf parts symbols l m
   unfolding restOf
   rest-at n m t h e f =
-      let z = raws-length (listCount l) 0 in
+      let z = raws-length parts symbols l (listCount l) 0 in
       rw (← e, ← f) (rw (zero-add n) at (suffix-at none (trees parts symbols l) 0 n (omega arith)))
 
   pub rest-is : (n : ℕ) → n < listCount l → restOf parts symbols l n ≡ bytesAt parts symbols l n ++ restOf parts symbols l (n + 1)
@@ -65,7 +58,7 @@ module _ (parts symbols l : List ℕ) where
 
   pub rest-end : restOf parts symbols l (listCount l) ≡ []
   unfolding restOf
-  rest-end = ap (λ j. getD (suffixes 0 (trees parts symbols l)) j []) (sym (raws-length (listCount l) 0)) ∙ suffix-end (trees parts symbols l) 0
+  rest-end = ap (λ j. getD (suffixes 0 (trees parts symbols l)) j []) (sym (raws-length parts symbols l (listCount l) 0)) ∙ suffix-end (trees parts symbols l) 0
 
   pub size-is : (n : ℕ) → n < listCount l → sizeFrom parts symbols l n ≡ length (bytesAt parts symbols l n) + sizeFrom parts symbols l (n + 1)
   size-is n h = ap length (rest-is n h) ∙ length-append (bytesAt parts symbols l n) (restOf parts symbols l (n + 1))
@@ -88,10 +81,7 @@ module _ (parts symbols l : List ℕ) where
 
   size-whole : sizeFrom parts symbols l 0 ≤ 33 * listCount l
   unfolding restOf
-  size-whole =
-      let a = write-size 0 (trees parts symbols l) .1 in
-      let z = raws-length (listCount l) 0 in
-      omega arith
+  size-whole = packed-most parts symbols l
 
   pub size-most : (n : ℕ) → n ≤ listCount l → sizeFrom parts symbols l n ≤ 33 * listCount l
   size-most n h =
@@ -122,33 +112,14 @@ module _ (parts symbols l : List ℕ) where
 
   -- ---- the work words
 
-  suffixes-length : (m : ℕ) (ts : List Raw) → length (suffixes m ts) ≡ length ts + 1
-  unfolding suffixes
-  suffixes-length m [] = refl
-  suffixes-length m (t ∷ ts) = rw (add-one (suc (length ts))) (ap suc (suffixes-length (m + 1) ts ∙ add-one (length ts)))
-
   lengths-at : (xs : List (List ℕ)) (i : ℕ) → getD (map length xs) i 0 ≡ length (getD xs i [])
   lengths-at [] i = refl
   lengths-at (x ∷ xs) zero = refl
   lengths-at (x ∷ xs) (suc i) = lengths-at xs i
 
-  lengths-length : (xs : List (List ℕ)) → length (map length xs) ≡ length xs
-  lengths-length [] = refl
-  lengths-length (x ∷ xs) = ap suc (lengths-length xs)
-
-  pub work-length : length (workWords (trees parts symbols l)) ≡ listCount l + 1
-  work-length = lengths-length (suffixes 0 (trees parts symbols l)) ∙ suffixes-length 0 (trees parts symbols l) ∙ ap (λ n. n + 1) (raws-length (listCount l) 0)
-
   pub work-at : (n : ℕ) → getD (workWords (trees parts symbols l)) n 0 ≡ sizeFrom parts symbols l n
   unfolding restOf
   work-at n = lengths-at (suffixes 0 (trees parts symbols l)) n
-
-  -- a root has a size of its own
-  pub root-33 : (t : Raw) (k : ℕ) → isSubtree t ≡ true → length (treeBytes 0 t k) ≡ 33
-  root-33 (punct s c x) k e = true-false false e refl
-  root-33 (ident s i r) k e = true-false false e refl
-  root-33 (literal s i m r x) k e = true-false false e refl
-  root-33 (subtree s t n d) k e = sym (subtree-33 s t n d k)
 
   -- ---- a list that rows 1 to 5 pass
 
@@ -157,11 +128,11 @@ module _ (parts symbols l : List ℕ) where
     ruled = lawful parts symbols l ok
 
     some-trees : 1 ≤ listCount l
-    some-trees = let a = ruled .some in let z = raws-length (listCount l) 0 in omega arith
+    some-trees = let a = ruled .some in let z = raws-length parts symbols l (listCount l) 0 in omega arith
 
     module _ (n : ℕ) (h : n < listCount l) where
       here : n < length (trees parts symbols l)
-      here = let z = raws-length (listCount l) 0 in omega arith
+      here = let z = raws-length parts symbols l (listCount l) 0 in omega arith
 
       pub raw-fields : fields (rawOf parts symbols l n) ≡ true
       raw-fields = ap fields (sym (tree-at n h)) ∙ ruled .inRange n here
@@ -184,7 +155,7 @@ module _ (parts symbols l : List ℕ) where
           let i : isSubtree (getD (trees parts symbols l) n none) ≡ true = ap isSubtree e in
           let c = ruled .counts n here i ∙ ap countOf e in
           let f = ruled .nested .inList n here (ruled .sort n here ∙ i) in
-          let z = raws-length (listCount l) 0 in
+          let z = raws-length parts symbols l (listCount l) 0 in
           omega arith
 
       pub raw-ends : n + 1 + countOf (rawOf parts symbols l n) ≤ listCount l

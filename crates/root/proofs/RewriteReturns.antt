@@ -23,12 +23,14 @@ use Rattle.pack.specs.declared.Packed.{Packed}
 use Rattle.pack.proofs.Store.{put-then}
 use Rattle.pack.proofs.Use.{heavy-contents}
 use Rattle.tree.specs.Refusal.{verdictAnswer}
+use Rattle.tree.specs.Types.{wordsOf}
+use Rattle.tree.proofs.Answers.{answer-passed, answer-refused}
 use Rattle.tree.specs.declared.refusal.Refusal.{Refusal}
 use Rattle.tree.specs.declared.refusal.Verdict.{Verdict as Answer}
 use Rattle.tree.specs.declared.refusal.Verdict.the-variants.{Passed, Refused}
 use Rattle.tree.specs.declared.types.Span as types
-use Rattle.checker.proofs.Admits.{answer-passed, answer-refused, passes}
-use Rattle.root.specs.Rewrite.{wordsOf, KindSet, Storable, SpansJudged, SpansSet}
+use Rattle.checker.proofs.Admits.{passes}
+use Rattle.root.specs.Rewrite.{KindSet, Storable, SpansJudged, SpansSet}
 
 -- ---- what the check's Passed says of the sizes
 

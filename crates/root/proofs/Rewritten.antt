@@ -11,12 +11,13 @@ use Rattle.format.specs.Root.{rangeFits, kindVerdict, spansVerdict, OnlyKind, O
 use Rattle.format.proofs.RootKind.{kind-rewritten, kind-passes, kind-refused, kind-bytes, kind-fits}
 use Rattle.format.proofs.RootSpans.{spans-rewritten, spans-passes, spans-refused, spans-bytes, spans-fit}
 use Rattle.tree.specs.Refusal.{verdictAnswer}
+use Rattle.tree.specs.Types.{wordsOf}
+use Rattle.tree.proofs.Answers.{answer-passed, answer-refused}
 use Rattle.tree.specs.declared.refusal.Refusal.{Refusal}
 use Rattle.tree.specs.declared.refusal.Verdict.{Verdict as Answer}
 use Rattle.tree.specs.declared.refusal.Verdict.the-variants.{Passed, Refused}
 use Rattle.tree.specs.declared.types.Span.{Span}
-use Rattle.checker.proofs.Admits.{answer-passed, answer-refused}
-use Rattle.root.specs.Rewrite.{wordsOf, KindSet, SpansSet}
+use Rattle.root.specs.Rewrite.{KindSet, SpansSet}
 
 -- ---- set_top_subtree_delimiter_kind: its answer r, and the buffer b′ that it leaves
 

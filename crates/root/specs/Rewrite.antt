@@ -2,14 +2,11 @@
 use Prim.Native.Nat.{ℕ, _+_, _≤_}
 use mathlib.Core.Path.{_≡_}
 use mathlib.Core.List.{List}
-use Rattle.format.specs.Root.{WordSpan, kindVerdict, kindAfter, spansVerdict, spansAfter, partsAfter}
+use Rattle.format.specs.Root.{kindVerdict, kindAfter, spansVerdict, spansAfter, partsAfter}
+use Rattle.tree.specs.Types.{wordsOf}
 use Rattle.tree.specs.Refusal.{verdictAnswer}
 use Rattle.tree.specs.declared.refusal.Verdict.{Verdict}
 use Rattle.tree.specs.declared.types.Span.{Span}
-
--- the definitions' span of a lent one
-abbrev pub wordsOf : Span → WordSpan
-wordsOf s = record { file = s .file; ast = s .«ast_id»; context = s .context; start = s .start; len = s .len }
 
 -- of a buffer b, k trees and a kind d: the answer, and what the buffer holds then
 pub record KindSet (b : List ℕ) (k : ℕ) (parts symbols : List ℕ) (d : ℕ) (r : Verdict) (b′ : List ℕ) : Type 0 where

@@ -15,7 +15,8 @@ ghost use lib.ListN.{length};
 ghost use Rattle.format.specs.Word.{put};
 ghost use Rattle.format.specs.Write.{heavyBytes};
 ghost use Rattle.format.specs.Root.{rangeFits, indexed, newKind, newSpans, newParts};
-ghost use Rattle.root.specs.Rewrite.{wordsOf, KindSet, Storable, SpansJudged, SpansSet};
+ghost use Rattle.tree.specs.Types.{wordsOf};
+ghost use Rattle.root.specs.Rewrite.{KindSet, Storable, SpansJudged, SpansSet};
 
 // The control byte of the root stands behind its open span, the close span behind that.
 const CONTROL: usize = 12;

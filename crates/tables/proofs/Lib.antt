@@ -1,1 +1,3 @@
 pub mod MakeReturns
+-- ---- what the answers mean
+pub mod Tabled

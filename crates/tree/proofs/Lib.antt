@@ -1,3 +1,4 @@
+pub mod Answers
 pub mod RawAgain
 pub mod FieldsReturns
 pub mod KindsReturns

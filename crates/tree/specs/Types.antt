@@ -5,6 +5,7 @@ use lib.ListN.{getD}
 use lib.Dec.{leb, eqb}
 use Rattle.format.specs.Test.{if_then_else_}
 use Rattle.format.specs.Span as format
+use Rattle.format.specs.Root.{WordSpan}
 use Rattle.format.specs.Tree.{Raw, punct, ident, literal, subtree}
 use Rattle.tree.specs.declared.types.Span.{Span}
 use Rattle.tree.specs.declared.types.Spacing.{Spacing}
@@ -136,6 +137,10 @@ litKindWord Err = 10
 
 abbrev pub spanList : Span → List ℕ
 spanList s = s .file ∷ s .«ast_id» ∷ s .context ∷ s .start ∷ s .len ∷ []
+
+-- the definitions' span of a lent one
+abbrev pub wordsOf : Span → WordSpan
+wordsOf s = record { file = s .file; ast = s .«ast_id»; context = s .context; start = s .start; len = s .len }
 
 abbrev pub zeros : List ℕ
 zeros = 0 ∷ 0 ∷ 0 ∷ 0 ∷ 0 ∷ []

@@ -26,6 +26,7 @@ use Rattle.format.proofs.Each.{and₃, and-right, both, refused-not}
 use Rattle.format.proofs.Holding.{holding-length, holding-count, holding-same, holding-five, passed-root}
 use Rattle.format.proofs.Tally.{lt-or-le}
 use Rattle.format.proofs.Put.{put-length, put-at, put-after}
+use Rattle.format.proofs.WriteSize.{work-size}
 use Rattle.places.specs.Places.{Roomy}
 use Rattle.places.proofs.Use.{roomy}
 use Rattle.tree.specs.Refusal.{verdictAnswer, reportAnswer}
@@ -37,7 +38,7 @@ use Rattle.tree.specs.declared.refusal.Report.the-variants.{Wrote, Refused}
 use Rattle.passes.specs.Passed.{Within, Passed}
 use Rattle.passes.specs.Tail.{fiveFrom, restOf, sizeFrom, headOf}
 use Rattle.passes.specs.Run.{firstAbsent, Lent, Ready, Sized, Beyond}
-use Rattle.passes.proofs.TailLaw.{work-length, work-at, head-whole}
+use Rattle.passes.proofs.TailLaw.{work-at, head-whole}
 use Rattle.passes.proofs.HoldLaw.{held-count, hold-size}
 use Rattle.passes.proofs.RunLaw.{run-cases, ready-roomy, ready-indexed, run-whole, lent-roomy, lent-ready, same-chain}
 use Rattle.passes.proofs.FiveReturns.{five-past, five-here, five-once, five-through}
@@ -322,7 +323,7 @@ module _ (p s l : List ℕ) (ok : Passed p s l) (work : List ℕ) where
     words = workWords (trees p s (holdingAll l))
 
     fits : 0 + length words ≤ length work
-    fits = let n = held-count p s l ok in let a = work-length p s (holdingAll l) in omega arith
+    fits = let n = held-count p s l ok in let a = work-size p s (holdingAll l) in omega arith
 
     filled : work′ ≡ put work 0 words
     filled =
@@ -333,14 +334,14 @@ module _ (p s l : List ℕ) (ok : Passed p s l) (work : List ℕ) where
         trees-word : (i : ℕ) → i < listCount l + 1 → getD work′ i 0 ≡ getD (put work 0 words) i 0
         trees-word i g =
             let n = held-count p s l ok in
-            let a = work-length p s (holdingAll l) in
+            let a = work-size p s (holdingAll l) in
             let e : getD (put work 0 words) i 0 ≡ getD words i 0 = rw (zero-add i) at (put-at work 0 words fits i (omega arith)) in
             w .at i (omega arith) (omega arith) ∙ sym (hold-size p s l ok i) ∙ sym (work-at p s (holdingAll l) i) ∙ sym e
 
         later-word : (i : ℕ) → listCount l + 1 ≤ i → getD work′ i 0 ≡ getD (put work 0 words) i 0
         later-word i g =
             let n = held-count p s l ok in
-            let a = work-length p s (holdingAll l) in
+            let a = work-size p s (holdingAll l) in
             b .same i (omega arith) ∙ sym (put-after work 0 words fits i (omega arith))
 
     pub work-filled : (out : List ℕ) (q : Report) (out′ : List ℕ) → Finished p s (holdingAll l) out q out′ → Written p s (holdingAll l) work out q work′ out′

@@ -1,1 +1,3 @@
 pub mod EncodeReturns
+-- ---- what the answers mean
+pub mod Encoded

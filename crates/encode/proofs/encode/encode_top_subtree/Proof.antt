@@ -1,5 +1,5 @@
 use borrow.Author.Needs.{needs}
-use Rattle.encode.proofs.EncodeTree.{answer-cases, tree-passes, root-33}
+use Rattle.encode.proofs.EncodeTree.{answer-cases, tree-passes, root-size}
 use Rattle.encode.proofs.encode.encode_top_subtree.Statement.{statement}
 use Rattle.encode.proofs.encode.encode_top_subtree.Tie as tie
 
@@ -23,7 +23,7 @@ returns-3 c = search (needs, answer-cases)
 
 put-top-requires : tie.Need-put-top-requires
 put-top-requires c κs =
-    tree-passes _ _ _ _ _ _ (c .before .before .before .before .before .before .subtree-fits .ensures) (c .before .before .before .before .before .if1 .left) _ (c .before .before .before .before .parts-fit .ensures) (c .before .before .before .if2 .left) 33 (root-33 _ _ _ _ _) _
+    tree-passes _ _ _ _ _ _ (c .before .before .before .before .before .before .subtree-fits .ensures) (c .before .before .before .before .before .if1 .left) _ (c .before .before .before .before .parts-fit .ensures) (c .before .before .before .if2 .left) 33 (root-size _ _ _ _ _) _
     (c .before .before .has-room .ensures) (c .before .if3 .left)
 
 same-length : tie.Need-same-length

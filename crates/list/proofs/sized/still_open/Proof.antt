@@ -1,7 +1,6 @@
 use Prim.Native.Nat.{_≤_}
 use mathlib.Core.Path.{_≡_}
-use Rattle.format.specs.Nest.{stillOpen}
-use Rattle.list.specs.Pass.{openEnds}
+use Rattle.format.specs.Nest.{stillOpen, openEnds}
 use borrow.Author.Needs.{needs}
 use Rattle.list.proofs.Returns.{open-cases}
 use Rattle.list.proofs.sized.still_open.Statement.{statement}
@@ -11,7 +10,7 @@ use Rattle.list.proofs.sized.still_open.Lts as lts
 use Rattle.tree.proofs.raw.place.Reads as place-reads
 
 abbrev Inv-loop : tie.InvT-loop
-Inv-loop ends depth n d₀ d = (d ≤ depth) × (stillOpen n (openEnds depth ends) ≡ stillOpen n (openEnds d ends))
+Inv-loop ends depth n d₀ d = (d ≤ depth) × (stillOpen n (openEnds ends depth) ≡ stillOpen n (openEnds ends d))
 
 abbrev μ-loop : tie.MeasureT-loop
 μ-loop ends depth n d₀ d = d

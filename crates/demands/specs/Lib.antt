@@ -1,0 +1,2 @@
+pub mod PlainMachine
+pub mod RoundTrip
