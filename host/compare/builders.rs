@@ -133,8 +133,9 @@ fn span(part: [u32; 3], step: usize) -> [u32; 5] {
     [part[0], part[1], part[2], 3 * step as u32, 1]
 }
 
-pub fn leaf(head: [u32; 5], span: [u32; 5]) -> [u32; 10] {
-    std::array::from_fn(|i| if i < 5 { head[i] } else { span[i - 5] })
+/// The list words of a leaf: its sort and two words, its span, no closing span.
+pub fn leaf(head: [u32; 3], span: [u32; 5]) -> [u32; 13] {
+    std::array::from_fn(|i| [head[0], head[1], head[2]].into_iter().chain(span).nth(i).unwrap_or(0))
 }
 
 /// Every script that goes on from here by so many steps at most; each is one case: its last step, then both ways to build.
@@ -147,8 +148,8 @@ fn scripts(run: &mut Run, site: &Site, points: &[[u32; 2]], left: usize) {
     }
     let n = run.script.len() + 1;
     let letters = [
-        ("push A".to_string(), Step::Push(leaf([0, 43, 0, 0, 0], span(A, n)))),
-        ("push B".to_string(), Step::Push(leaf([1, 5, 0, 0, 0], span(B, n)))),
+        ("push A".to_string(), Step::Push(leaf([0, 43, 0], span(A, n)))),
+        ("push B".to_string(), Step::Push(leaf([1, 5, 0], span(B, n)))),
         ("open A".to_string(), Step::Open(0, span(A, n))),
         ("open B".to_string(), Step::Open(1, span(B, n))),
         ("close A".to_string(), Step::Close(span(A, n))),

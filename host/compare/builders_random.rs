@@ -17,16 +17,26 @@ fn random_span(r: &mut Random) -> [u32; 5] {
     [part % 5, part / 5, 1, start, len]
 }
 
-fn random_leaf(r: &mut Random) -> [u32; 10] {
+/// Each word is out of range now and then: sort, character, spacing, raw, kind, raw count, suffix length, closing span.
+fn random_leaf(r: &mut Random) -> [u32; 13] {
     let head = match r.below(3) {
-        0 => [0, r.pick(&[43, 0, 127, 128, 0x10FFFF, 0xD7FF, 0xE000, 43, 43, 43, 0xD800, 0xDFFF, 0x110000]), r.below(4) as u32, 9, 9],
-        1 => [1, r.below(4) as u32, r.below(3) as u32, 9, 9],
+        0 => [0, r.pick(&[43, 0, 127, 128, 0x10FFFF, 0xD7FF, 0xE000, 43, 43, 43, 0xD800, 0xDFFF, 0x110000]), r.below(4) as u32],
+        1 => [1, r.below(4) as u32, r.below(3) as u32],
         _ => {
-            let large = |r: &mut Random| if r.one_in(20) { r.pick(&[256, 65536, u32::MAX]) } else { r.near(&[0, 15, 255], 255) as u32 };
-            [r.pick(&[2, 2, 3, u32::MAX]), r.below(4) as u32, r.below(13) as u32, large(r), large(r)]
+            let kind = r.below(13) as u32;
+            let raw_count = if matches!(kind, 5 | 7 | 9) || r.one_in(20) { r.near(&[0, 1, 255], 255) as u32 } else { 0 };
+            let suffix = if r.one_in(20) { r.pick(&[256, 65535]) } else { r.near(&[0, 15, 255], 255) as u32 };
+            [2, r.below(4) as u32, kind + 256 * raw_count + 65536 * suffix]
         }
     };
-    leaf(head, random_span(r))
+    let mut words = leaf(head, random_span(r));
+    if r.one_in(20) {
+        words[0] = r.pick(&[3, 4, 9, u32::MAX]);
+    }
+    if r.one_in(20) {
+        words[8 + r.below(5) as usize] = 1;
+    }
+    words
 }
 
 fn random_kind(r: &mut Random) -> u32 {
@@ -171,7 +181,7 @@ fn invented(r: &mut Random, run: &mut Run) -> Site {
     site.source = None;
     for _ in 0..r.below(13) {
         let step = match r.below(5) {
-            0 | 1 => Step::Push(leaf([1, 4, 0, 0, 0], range(r))),
+            0 | 1 => Step::Push(leaf([1, 4, 0], range(r))),
             2 | 3 => Step::Open(0, range(r)),
             _ => Step::Close(range(r)),
         };
@@ -216,7 +226,7 @@ fn steps_alike(tally: &mut Tally, what: &str, site: &mut Site, steps: &[(Step, R
 
 pub fn limits(tally: &mut Tally) {
     let span = [1, 1, 1, 5, 1];
-    let (open, push, close) = (Step::Open(1, span), Step::Push(leaf([1, 4, 0, 0, 0], span)), Step::Close(span));
+    let (open, push, close) = (Step::Open(1, span), Step::Push(leaf([1, 4, 0], span)), Step::Close(span));
     let (_, b) = Builder::new(&mut Site::run_of(1), 3, &[0; 10]);
     let start = |trees: usize| {
         let mut list = Site::run_of(trees);

@@ -28,12 +28,13 @@ fn main() {
     let many: u64 = std::env::args().nth(1).map_or(1, |x| x.parse().expect("how many times the usual number"));
     // all parts are run, unless a word is given that their names must hold
     let word = std::env::args().nth(2).unwrap_or_default();
-    let parts: [(&str, &dyn Fn(&mut Tally)); 18] = [
+    let parts: [(&str, &dyn Fn(&mut Tally)); 19] = [
         ("spans and symbols written", &|t| pack::write(t)),
         ("spans and symbols read", &|t| pack::read(t)),
         ("trees written", &|t| tree::write(t, 1_000_000 * many)),
         ("roots written", &|t| tree::write_roots(t, 200_000 * many)),
         ("trees read", &|t| tree::read(t, 50_000 * many)),
+        ("one tree over tables of every size", &|t| tree::sizes(t)),
         ("lists written", &|t| lists::write(t, 40_000 * many)),
         ("tables made", &|t| lists::tables(t, 40_000 * many)),
         ("damaged lists", &|t| lists::damaged(t, 40_000 * many)),

@@ -1,5 +1,5 @@
 //! The scope paper's builder, a second time, without regard to speed.
-use crate::plain_list::{Refusal, TREES};
+use crate::plain_list::{self, Refusal, TREES};
 use crate::proved::Builder;
 use crate::steps::Step;
 
@@ -7,26 +7,9 @@ fn fits(span: &[u32]) -> bool {
     span[3].checked_add(span[4]).is_some()
 }
 
-/// The words of a leaf that row 2 passes. The source's types have no spacing above 2, no raw above 1, no kind above 10.
-pub fn leaf_words(leaf: &[u32; 10]) -> Option<[u32; 13]> {
-    let [sort, first, second, raw_count, suffix, ..] = *leaf;
-    let second = match sort {
-        0 => {
-            char::from_u32(first)?;
-            second.min(2)
-        }
-        1 => second.min(1),
-        _ => {
-            let raw_count = if matches!(second, 5 | 7 | 9) { raw_count } else { 0 };
-            if raw_count > 255 || suffix > 255 {
-                return None;
-            }
-            second.min(10) + 256 * raw_count + 65536 * suffix
-        }
-    };
-    let mut words = [sort.min(2), first, second, 0, 0, 0, 0, 0, 0, 0, 0, 0, 0];
-    words[3..8].copy_from_slice(&leaf[5..]);
-    fits(&leaf[5..]).then_some(words)
+/// Row 2 of the words of a leaf.
+fn leaf_fits(words: &[u32; 13]) -> bool {
+    words[0] != 3 && plain_list::fields(words)
 }
 
 fn subtree_words(kind: u32, open: &[u32], close: &[u32]) -> [u32; 13] {
@@ -85,7 +68,12 @@ pub fn step(b: &mut Builder, list: &mut [u32], step: &Step) -> Result<(), Refusa
         return Err((10, count));
     }
     match step {
-        Step::Push(leaf) => add(b, list, leaf_words(leaf).ok_or((2, count))?),
+        Step::Push(words) => {
+            if !leaf_fits(words) {
+                return Err((2, count));
+            }
+            add(b, list, *words)
+        }
         Step::Open(kind, span) => {
             if *kind > 3 || !fits(span) {
                 return Err((2, count));

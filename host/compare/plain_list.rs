@@ -23,7 +23,8 @@ fn tree(w: &[u32]) -> Tree {
     }
 }
 
-fn fields(w: &[u32]) -> bool {
+/// Row 2 of one tree.
+pub fn fields(w: &[u32]) -> bool {
     w[0] <= 3 && plain::in_range(&tree(w)) && (w[0] == 3 || w[8..] == [0; 5])
 }
 

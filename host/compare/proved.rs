@@ -18,7 +18,7 @@ mod raw {
         ) -> u64;
         pub fn tt_encode_tree(
             out: *mut u8, len: usize, at: usize,
-            tree: *const u32, words: usize,
+            tree: *const u32,
             open: u32, close: u32, symbol: u32, children: u32,
         ) -> u64;
         pub fn tt_encode_list(
@@ -134,7 +134,7 @@ pub fn decode_tree(b: &[u8], parts: &[u32], symbols: &[u32], n: u32, at: usize, 
 #[inline]
 pub fn encode_tree(out: &mut [u8], at: usize, tree: &[u32; 13], indices: [u32; 3], children: u32) -> Result<u64, u64> {
     let [open, close, symbol] = indices;
-    reply(unsafe { raw::tt_encode_tree(out.as_mut_ptr(), out.len(), at, tree.as_ptr(), 13, open, close, symbol, children) })
+    reply(unsafe { raw::tt_encode_tree(out.as_mut_ptr(), out.len(), at, tree.as_ptr(), open, close, symbol, children) })
 }
 
 /// The root by its spans (index, start, length), descendants, delimiter kind and children bytes.
@@ -297,7 +297,7 @@ macro_rules! foreign {
 
 foreign!(builder_new = tt_builder_new(list: &mut [u32], kind: u32, spans: &[u32; 10], next: &mut [usize; 2], opened: &mut [u32; 256],));
 foreign!(builder_push = tt_builder_push(
-    list: &mut [u32], count: u32, depth: usize, leaf: &[u32; 10], next: &mut [usize; 2], opened: &mut [u32; 256],
+    list: &mut [u32], count: u32, depth: usize, leaf: &[u32; 13], next: &mut [usize; 2], opened: &mut [u32; 256],
 ));
 foreign!(builder_open = tt_builder_open(
     list: &mut [u32], count: u32, depth: usize, kind: u32, span: &[u32; 5], next: &mut [usize; 2], opened: &mut [u32; 256],
@@ -339,9 +339,9 @@ impl Builder {
         (reply, b)
     }
 
-    /// Sort, four numbers, span.
+    /// A leaf by its list words.
     #[inline]
-    pub fn push(&mut self, list: &mut [u32], leaf: &[u32; 10]) -> Result<(), (u64, u64)> {
+    pub fn push(&mut self, list: &mut [u32], leaf: &[u32; 13]) -> Result<(), (u64, u64)> {
         self.step(|count, depth, next, opened| builder_push(list, count, depth, leaf, next, opened))
     }
 

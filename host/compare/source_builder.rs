@@ -1,5 +1,5 @@
 //! The source's builder, followed step by step, and the classes of differences from it (docs/DIFFERENCES.md, 1 to 3).
-use crate::plain_builder::{leaf_words, reaches_past};
+use crate::plain_builder::reaches_past;
 use crate::plain_list::Refusal;
 use crate::proved::Builder;
 use crate::steps::Step;
@@ -74,7 +74,7 @@ impl Followed {
     fn count(&mut self, step: &Step, b: &Builder, list: &[u32]) {
         let mut add = |part: Part, n: i64| *self.counts.entry(part).or_default() += n;
         match step {
-            Step::Push(leaf) => add(part(&leaf[5..]), 1),
+            Step::Push(words) => add(part(&words[3..]), 1),
             Step::Open(_, span) | Step::Close(span) => add(part(span), 1),
             Step::Restore([trees, _]) if *trees < b.count => {
                 list[13 * *trees as usize..13 * b.count as usize].chunks(13).flat_map(parts).for_each(|p| add(p, -1));
@@ -87,7 +87,7 @@ impl Followed {
         let builder = self.builder.as_mut()?;
         caught(|| match step {
             Step::Push(leaf) => {
-                let TokenTree::Leaf(leaf) = words::tree(&leaf_words(leaf).unwrap()) else { unreachable!() };
+                let TokenTree::Leaf(leaf) = words::tree(leaf) else { unreachable!() };
                 builder.push(leaf);
             }
             Step::Open(kind, span) => builder.open(words::delimiter_kind(*kind), words::span(span)),

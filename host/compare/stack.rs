@@ -62,7 +62,7 @@ fn built_alike(list: &[u32], parts: &[u32], symbols: &[u32], work: &mut [u32], b
     let stepped = steps_of(list).iter().all(|step| take(&mut b, &mut run, step).is_ok());
     let same = stepped && run[2..list.len()] == list[2..];
     let point = b.point(&run).unwrap();
-    let more = b.count as usize == plain_list::TREES || take(&mut b, &mut run, &Step::Push([0; 10])).is_ok();
+    let more = b.count as usize == plain_list::TREES || take(&mut b, &mut run, &Step::Push([0; 13])).is_ok();
     let back = b.restore(&run, point) == Ok(()) && [b.count, b.depth as u32] == point;
     let (mut out, mut inner) = (vec![0; bytes.len()], vec![0; bytes.len()]);
     let built = b.build(&run, false, parts, symbols, work, &mut out) == Ok(bytes.len() as u64);

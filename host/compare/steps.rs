@@ -5,8 +5,8 @@ pub type Span = [u32; 5];
 
 #[derive(Clone, Copy, Debug)]
 pub enum Step {
-    /// Sort, four numbers, span, as the proved function takes a leaf.
-    Push([u32; 10]),
+    /// The leaf's list words.
+    Push([u32; 13]),
     Open(u32, Span),
     Close(Span),
     Restore([u32; 2]),
@@ -39,8 +39,7 @@ pub fn steps_of(list: &[u32]) -> Vec<Step> {
             open.push((n + 1 + w[1] as usize, span(&w[8..])));
             steps.push(Step::Open(w[2], span(&w[3..])));
         } else {
-            let [a, b, c] = if w[0] == 2 { [w[2] % 256, w[2] / 256 % 256, w[2] / 65536] } else { [w[2], 0, 0] };
-            steps.push(Step::Push([w[0], w[1], a, b, c, w[3], w[4], w[5], w[6], w[7]]));
+            steps.push(Step::Push(w.try_into().unwrap()));
         }
     }
     steps.extend(open.into_iter().rev().map(|(_, close)| Step::Close(close)));

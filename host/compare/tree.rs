@@ -187,6 +187,32 @@ fn reads_alike(t: &Tables, bytes: &[u8], at: usize, n: u32) -> bool {
     }
 }
 
+/// One tree over tables of every size about row 1's bounds: 1 outside them, else what is read.
+pub fn sizes(tally: &mut Tally) {
+    let mut root = [0; 33];
+    root[..5].copy_from_slice(&[0, 0x40, 0, 0, 1]);
+    root[12] = 0x1D;
+    root[13..18].copy_from_slice(&[0, 0x40, 0, 0, 1]);
+    let (most, many) = (3 * 2097152, 1048576);
+    let (parts, symbols) = (vec![9; most + 3], vec![9; many + 1]);
+    for part_words in (0..12).chain(most - 1..most + 4) {
+        for count in [0, 1, many, many + 1] {
+            for n in [0, 1] {
+                let mut got = [0xAAAA; 14];
+                let reply = proved::decode_tree(&root, &parts[..part_words], &symbols[..count], n, 0, &mut got);
+                let sized = part_words % 3 == 0 && (6..=most).contains(&part_words) && count <= many;
+                let want = plain::read(&root, 0, n.into(), part_words as u64 / 3, count as u64);
+                let same = match want {
+                    _ if !sized => reply == Err(1) && got == [0xAAAA; 14],
+                    Err(number) => reply == Err(number) && got == [0xAAAA; 14],
+                    Ok((_, next, _)) => reply == Ok(next as u64),
+                };
+                tally.case(same, || format!("tree {n} over {part_words} part words, {count} symbols: {reply:?}"));
+            }
+        }
+    }
+}
+
 /// Trees read in every form, the writer's choice or not, each also cut short at every byte and with a byte changed.
 pub fn read(tally: &mut Tally, trees: u64) {
     let mut r = Random::new(4);
