@@ -55,7 +55,7 @@ fn glance_of(here: RawAt) -> Glance
 }
 
 // Tree n at a place.
-pub fn glance_at(b: &[u8], sizes: Sizes, n: u32, at: usize) -> Glance
+pub(crate) fn glance_at(b: &[u8], sizes: Sizes, n: u32, at: usize) -> Glance
     ensures { λ r. ⌜ r ≡ glanceAt (now (b .entry)) sizes n at ⌝ }
 {
     let read = tree_at(b, sizes.parts, sizes.symbols, n, at);

@@ -61,7 +61,7 @@ fn nested<'a>(
 }
 
 // Row 1 or 10, or 0.
-pub fn cursor_row<'a>(
+pub(crate) fn cursor_row<'a>(
     b: &[u8],
     trees: u32,
     parts: &[u32],

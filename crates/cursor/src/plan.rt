@@ -151,7 +151,7 @@ fn shut_last<'a>(
 }
 
 // `bump`: closing is 10.
-pub fn plan_bump<'a>(
+pub(crate) fn plan_bump<'a>(
     b: &[u8],
     trees: u32,
     parts: &[u32],
@@ -175,7 +175,7 @@ pub fn plan_bump<'a>(
 }
 
 // `end`: not closing is 10.
-pub fn plan_end<'a>(
+pub(crate) fn plan_end<'a>(
     b: &[u8],
     trees: u32,
     parts: &[u32],
@@ -199,7 +199,7 @@ pub fn plan_end<'a>(
 }
 
 // `bump_or_end`: closing shuts, and nothing is read.
-pub fn plan_bump_or_end<'a>(
+pub(crate) fn plan_bump_or_end<'a>(
     b: &[u8],
     trees: u32,
     parts: &[u32],

@@ -15,7 +15,7 @@ ghost use Rattle.export.specs.Code.{codeOf, spanWords, symbolWords};
 ghost use Rattle.export.specs.Code.{SpanStored, SymbolStored, SpanFound, SymbolFound};
 
 // A reply in one number: the bytes written, or 2^63 and the refusal's number.
-pub fn code_of(p: Packed) -> u64
+pub(crate) fn code_of(p: Packed) -> u64
     ensures { λ r. ⌜ r ≡ codeOf p ⌝ }
 {
     match p {

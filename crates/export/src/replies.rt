@@ -8,13 +8,13 @@ ghost use Rattle.export.specs.Replies.{refusedCode, verdictCode, reportC
 // Refusal 6 at tree 0.
 pub const TOO_SHORT: u64 = 9223372062624579584;
 
-pub fn refused_code(r: Refusal) -> u64
+pub(crate) fn refused_code(r: Refusal) -> u64
     ensures { λ c. ⌜ c ≡ refusedCode r ⌝ }
 {
     9223372036854775808 + 4294967296 * ((r.number % 2147483648) as u64) + (r.tree as u64)
 }
 
-pub fn verdict_code(v: Verdict) -> u64
+pub(crate) fn verdict_code(v: Verdict) -> u64
     ensures { λ c. ⌜ c ≡ verdictCode v ⌝ }
 {
     match v {
@@ -23,7 +23,7 @@ pub fn verdict_code(v: Verdict) -> u64
     }
 }
 
-pub fn report_code(v: Report) -> u64
+pub(crate) fn report_code(v: Report) -> u64
     ensures { λ c. ⌜ c ≡ reportCode v ⌝ }
 {
     match v {

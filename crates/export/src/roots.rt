@@ -21,7 +21,7 @@ pub extern "C" fn tt_set_kind(
     verdict_code(verdict)
 }
 
-pub fn span_of(file: u32, ast_id: u32, context: u32, start: u32, len: u32) -> Span
+pub(crate) fn span_of(file: u32, ast_id: u32, context: u32, start: u32, len: u32) -> Span
     ensures { λ r. ⌜ r ≡ record { file = file; «ast_id» = «ast_id»; context = context; start = start; len = len } ⌝ }
 {
     Span {

@@ -110,7 +110,7 @@ fn list_buffer(out: &mut [u8], b: &[u8], trees: u32, parts: usize, symbols: usiz
 }
 
 // As much of the text as the run has room for; 327,744 bytes are always enough.
-pub fn list_bundle(out: &mut [u8], b: &[u8]) -> usize
+pub(crate) fn list_bundle(out: &mut [u8], b: &[u8]) -> usize
     ensures text { λ r. ⌜ Typed (now (out .entry)) 0 (listerText (now (b .entry))) r (now (out .exit)) ⌝ }
     ensures fits { λ _. ⌜ length (listerText (now (b .entry))) ≤ 327744 ⌝ }
 {

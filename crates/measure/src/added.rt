@@ -19,7 +19,7 @@ fn five(a: u32, b: u32, c: u32, d: u32, e: u32) -> u64
 }
 
 // Modulo 2^32, so that a sum fits whatever is added.
-pub fn added(sum: u64, tree: TokenTree) -> u64
+pub(crate) fn added(sum: u64, tree: TokenTree) -> u64
     ensures { λ r. ⌜ (r ≡ plus sum (treeWordsOf tree)) × (r < 4294967296) ⌝ }
 {
     let w = tree_words(tree);
@@ -30,7 +30,7 @@ pub fn added(sum: u64, tree: TokenTree) -> u64
 }
 
 // A refusal by its number.
-pub fn refused_code(number: u32) -> u64
+pub(crate) fn refused_code(number: u32) -> u64
     ensures { λ r. ⌜ r ≡ refusedCode number ⌝ }
 {
     9223372036854775808 + number as u64

@@ -48,38 +48,6 @@ pub refuse-answer : (r n : ℕ) → Refused (record { number = r; tree = n }) �
 unfolding reportAnswer
 refuse-answer r n = refl
 
--- ---- row 1 on the tables
-
-module _ (p s : List ℕ) where
-  pub odd-parts : (length p % 3 ≡ 0 → ⊥) → false ≡ ownTables p s .sized
-  odd-parts h = let a : eqb (length p % 3) 0 ≡ false = ne-eqb _ _ h in simp a
-
-  module _ (h : length p % 3 ≡ 0) where
-    even : eqb (length p % 3) 0 ≡ true
-    even = eq-eqb _ _ h
-
-    pub few-parts : length p / 3 < 2 → false ≡ ownTables p s .sized
-    few-parts k = let a = lt-leb 2 (length p / 3) k in simp (even, a)
-
-    module _ (k : 2 ≤ length p / 3) where
-      two : leb 2 (length p / 3) ≡ true
-      two = le-leb 2 (length p / 3) k
-
-      pub many-parts : 2097152 < length p / 3 → false ≡ ownTables p s .sized
-      many-parts i = let a = lt-leb (length p / 3) 2097152 i in simp (even, two, a)
-
-      module _ (i : length p / 3 ≤ 2097152) where
-        parts-fit : leb (length p / 3) 2097152 ≡ true
-        parts-fit = le-leb (length p / 3) 2097152 i
-
-        pub many-symbols : 1048576 < length s → false ≡ ownTables p s .sized
-        many-symbols j = let a = lt-leb (length s) 1048576 j in simp (even, two, parts-fit, a)
-
-        pub tables-fit : length s ≤ 1048576 → true ≡ ownTables p s .sized
-        tables-fit j = let a = le-leb (length s) 1048576 j in simp (even, two, parts-fit, a)
-
-pub ruleset tables-cases = (odd-parts, few-parts, many-parts, many-symbols, tables-fit)
-
 -- ---- a verdict from its answer
 
 refusal-same : (a b : Refusal) → verdicts.Refused a ≡ verdicts.Refused b → a ≡ b

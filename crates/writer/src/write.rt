@@ -12,9 +12,9 @@ use places::resolve::build;
 use tree::raw::place;
 use tree::refusal::Report;
 use tree::refusal::Verdict;
+use tree::sizes::tables_sized;
 ghost use mathlib.Core.Path.{_≡_};
 ghost use Rattle.format.specs.Holding.{holdingAll};
-ghost use Rattle.format.specs.Tables.{ownTables};
 ghost use Rattle.format.specs.Verdict.{passed};
 ghost use Rattle.format.specs.WordList.{listRules};
 ghost use Rattle.passes.specs.Passed.{Within, Passed};
@@ -316,26 +316,6 @@ fn write_by_size(
         return write_middle(l, parts, symbols, work, out);
     }
     write_small(l, parts, symbols, work, out)
-}
-
-// Whether row 1 is silent on the tables.
-fn tables_sized(parts: &[u32], symbols: &[u32]) -> bool
-    ensures { λ r. ⌜ r ≡ ownTables (now (parts .entry)) (now (symbols .entry)) .sized ⌝ }
-{
-    if parts.len() % 3 != 0 {
-        return false;
-    }
-    let count = parts.len() / 3;
-    if count < 2 {
-        return false;
-    }
-    if 2097152 < count {
-        return false;
-    }
-    if 1048576 < symbols.len() {
-        return false;
-    }
-    true
 }
 
 // Row 5 for the root, whose parts are not looked for.

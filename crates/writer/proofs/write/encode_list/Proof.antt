@@ -7,7 +7,7 @@ use Rattle.writer.proofs.write.encode_list.Lts as lts
 use Rattle.list.proofs.rows.list_sized.Reads as list-sized-reads
 use Rattle.list.proofs.sized.list_rules.Reads as list-rules-reads
 use Rattle.writer.proofs.refuse.refuse.Reads as refuse-reads
-use Rattle.writer.proofs.write.tables_sized.Reads as tables-sized-reads
+use Rattle.tree.proofs.sizes.tables_sized.Reads as tables-sized-reads
 use Rattle.writer.proofs.write.write_ruled.Reads as write-ruled-reads
 
 -- src/encode.rt:236:9
