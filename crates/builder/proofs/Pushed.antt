@@ -7,8 +7,8 @@ use native.Mathlib.Omega.{arith}
 use lib.Dec.{eqb}
 use lib.ListN.{length, getD}
 use Rattle.format.specs.Test.{if_then_else_}
-use Rattle.format.specs.WordList.{wordOf, wordFields}
-use Rattle.format.specs.Builder.{leafFits, leafWords}
+use Rattle.format.specs.WordList.{wordOf, rawFrom, wordFields}
+use Rattle.format.specs.Builder.{wordIn, leafFits, leafWords}
 use Rattle.tree.specs.Types.{treeWordsOf}
 use Rattle.tree.specs.Words.{treeFrom, wordsAnswer}
 use Rattle.tree.proofs.WordsAgain.{words-of-tree}
@@ -62,9 +62,14 @@ no-words : (a b : Bool) → b ≡ false → false ≡ (not a && b)
 no-words true b e = refl
 no-words false b e = sym e
 
+-- the words of a list of one tree are its words
+fields-here : (w : List ℕ) (x : Bool) → wordFields (wordOf w 0) ≡ x → wordFields (wordIn w) ≡ x
+unfolding rawFrom
+fields-here w x e = e
+
 module _ (w : List ℕ) (r : WordsRead) (e : r ≡ wordsAnswer (wordOf w 0)) where
   pub words-none : (k : ℕ) → r ≡ Bad k → false ≡ leafFits w
-  words-none k q = no-words (eqb (getD w 0 0) 3) (wordFields (wordOf w 0)) (bad-fields (wordOf w 0) k (sym e ∙ q))
+  words-none k q = no-words (eqb (getD w 0 0) 3) (wordFields (wordIn w)) (fields-here w false (bad-fields (wordOf w 0) k (sym e ∙ q)))
 
   module _ (t : TokenTree) (q : r ≡ Got t) where
     first : getD (treeWordsOf t) 0 0 ≡ getD w 0 0
@@ -75,10 +80,10 @@ module _ (w : List ℕ) (r : WordsRead) (e : r ≡ wordsAnswer (wordOf w 0)) whe
 
     pub words-leaf : (x : Leaf) → t ≡ trees.Leaf x → true ≡ leafFits w
     words-leaf x k =
-        is-leaf (eqb (getD w 0 0) 3) (wordFields (wordOf w 0)) (sorted (trees.Leaf x) k ∙ leaf-sort x) (got-fields (wordOf w 0) t (sym e ∙ q))
+        is-leaf (eqb (getD w 0 0) 3) (wordFields (wordIn w)) (sorted (trees.Leaf x) k ∙ leaf-sort x) (fields-here w true (got-fields (wordOf w 0) t (sym e ∙ q)))
 
     pub words-subtree : (p : Subtree) → t ≡ trees.Subtree p → false ≡ leafFits w
-    words-subtree p k = no-leaf (eqb (getD w 0 0) 3) (wordFields (wordOf w 0)) (sorted (trees.Subtree p) k ∙ subtree-sort p)
+    words-subtree p k = no-leaf (eqb (getD w 0 0) 3) (wordFields (wordIn w)) (sorted (trees.Subtree p) k ∙ subtree-sort p)
 
 pub ruleset words-fit-cases = (words-none, words-leaf, words-subtree)
 
