@@ -13,7 +13,7 @@ use Rattle.format.specs.WordList.{rawFrom}
 use Rattle.format.specs.Root.{rangeFits}
 use Rattle.format.specs.Builder.{leafFits, leafWords}
 use Rattle.format.proofs.Each.{and-left, and-right, and₃}
-use Rattle.tree.specs.Types.{spacingWord, isRawWord, litKindWord, treeWordsOf}
+use Rattle.tree.specs.Types.{spacingWord, isRawWord, litKindWord, treeWordsOf, wordsOf}
 use Rattle.tree.specs.Words.{rawCount, tokenFits}
 use Rattle.tree.specs.declared.types.Spacing.{Spacing}
 use Rattle.tree.specs.declared.types.Spacing.the-variants.{Alone, Joint, JointHidden}
@@ -25,7 +25,7 @@ use Rattle.tree.specs.declared.types.Literal.{Literal}
 use Rattle.tree.specs.declared.types.Leaf.{Leaf}
 use Rattle.tree.specs.declared.types.Leaf.the-variants as leaves
 use Rattle.tree.specs.declared.types.TokenTree.the-variants as trees
-use Rattle.builder.specs.Given.{wordsOf, pushed}
+use Rattle.builder.specs.Given.{pushed}
 
 spacing-small : (s : Spacing) → leb (spacingWord s) 2 ≡ true
 unfolding spacingWord

@@ -7,7 +7,7 @@ use borrow.Author.Tests.{le-leb, lt-leb, not-true, not-false}
 use lib.Dec.{leb}
 use Rattle.format.specs.Fields.{isScalar}
 use Rattle.format.specs.Root.{rangeFits}
-use Rattle.tree.specs.Types.{litKindWord}
+use Rattle.tree.specs.Types.{litKindWord, wordsOf}
 use Rattle.tree.specs.Words.{rawCount, tokenFits}
 use Rattle.tree.specs.declared.types.Span.{Span}
 use Rattle.tree.specs.declared.types.LitKind.{LitKind}
@@ -18,7 +18,6 @@ use Rattle.tree.specs.declared.types.Literal.{Literal}
 use Rattle.tree.specs.declared.types.Leaf.{Leaf}
 use Rattle.tree.specs.declared.types.Leaf.the-variants as leaves
 use Rattle.tree.specs.declared.types.TokenTree.the-variants as trees
-use Rattle.builder.specs.Given.{wordsOf}
 
 module _ (s : Span) (n : s .start < 4294967296) where
   pub range-out : 4294967295 - s .start < s .len → false ≡ rangeFits (wordsOf s)
