@@ -10,7 +10,7 @@ use Rattle.format.specs.Test.{if_then_else_}
 use Rattle.format.specs.Verdict as format
 use Rattle.format.specs.Builder.{Step, builderStep, newVerdict, new, pointVerdict, restorePoint}
 use Rattle.format.specs.Builder as steps
-use Rattle.tree.specs.Types.{spacingOf, isRawOf, litKindOf}
+use Rattle.tree.specs.Types.{spacingOf, isRawOf, litKindOf, wordsOf}
 use Rattle.tree.specs.Refusal.{verdictAnswer}
 use Rattle.tree.specs.declared.refusal.Refusal.{Refusal}
 use Rattle.tree.specs.declared.refusal.Verdict.{Verdict}
@@ -22,7 +22,7 @@ use Rattle.tree.specs.declared.types.Spacing.{Spacing}
 use Rattle.tree.specs.declared.types.IdentIsRaw.{IdentIsRaw}
 use Rattle.tree.specs.declared.types.LitKind.{LitKind}
 use Rattle.builder.specs.State.{seen}
-use Rattle.builder.specs.Given.{wordsOf, pushed}
+use Rattle.builder.specs.Given.{pushed}
 use Rattle.builder.specs.Restoring.{pointAnswer}
 use Rattle.builder.specs.Taken.{Begun, Taken}
 use Rattle.builder.specs.Building.{Built, BuiltSkipping}

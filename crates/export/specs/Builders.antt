@@ -9,13 +9,12 @@ use Rattle.format.specs.Test.{if_then_else_}
 use Rattle.format.specs.Verdict.{Verdict, contents}
 use Rattle.format.specs.Builder.{Step, builderStep, newVerdict, new, pointVerdict, restorePoint, build, buildSkipTopSubtree}
 use Rattle.format.specs.Builder as format
-use Rattle.tree.specs.Types.{spacingOf, isRawOf, litKindOf}
+use Rattle.tree.specs.Types.{spacingOf, isRawOf, litKindOf, wordsOf}
 use Rattle.tree.specs.Refusal.{verdictAnswer, reportAnswer}
 use Rattle.tree.specs.declared.types.Span.{Span}
 use Rattle.tree.specs.declared.types.Leaf.{Leaf}
 use Rattle.tree.specs.declared.types.Leaf.the-variants as leaves
 use Rattle.builder.specs.State.{seen}
-use Rattle.builder.specs.Given.{wordsOf}
 use Rattle.builder.specs.Restoring.{pointAnswer}
 use Rattle.builder.specs.Taken.{noneOpen, after}
 use Rattle.builder.specs.declared.state.Builder.{Builder}
