@@ -17,6 +17,7 @@ use Rattle.format.specs.Builder as format
 use Rattle.format.proofs.Each.{and-left, rule-passed}
 use Rattle.format.proofs.BuilderRestore.{Agrees, agrees-is}
 use Rattle.tree.specs.Refusal.{verdictAnswer, reportAnswer}
+use Rattle.tree.proofs.Answers.{answer-passed, answer-refused}
 use Rattle.tree.specs.declared.refusal.Refusal.{Refusal}
 use Rattle.tree.specs.declared.refusal.Verdict.{Verdict as Answer}
 use Rattle.tree.specs.declared.refusal.Verdict.the-variants.{Passed, Refused}
@@ -26,7 +27,6 @@ use Rattle.writer.specs.Written.{Written}
 use Rattle.builder.specs.declared.state.Builder.{Builder}
 use Rattle.builder.specs.State.{numbers, stateOf, seen}
 use Rattle.builder.specs.Building.{Made, Built, BuiltSkipping}
-use Rattle.builder.proofs.Answers.{answer-passed, answer-refused}
 use Rattle.builder.proofs.Numbers.{numbers-length}
 use Rattle.builder.proofs.StepReturns.{same, passed-is}
 

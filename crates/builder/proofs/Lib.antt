@@ -9,7 +9,6 @@ pub mod BuildReturns
 -- ---- the array of open trees, a pushed leaf, an answered verdict
 pub mod Numbers
 pub mod Pushed
-pub mod Answers
 -- ---- what the steps mean
 pub mod Seen
 pub mod Runs

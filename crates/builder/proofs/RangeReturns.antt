@@ -8,7 +8,7 @@ use lib.Dec.{leb}
 use mathlib.Core.List.{List}
 use Rattle.format.specs.Fields.{isScalar}
 use Rattle.format.specs.Root.{rangeFits}
-use Rattle.tree.specs.Types.{litKindWord, treeWordsOf}
+use Rattle.tree.specs.Types.{litKindWord, treeWordsOf, wordsOf}
 use Rattle.tree.specs.Words.{rawCount, tokenFits}
 use Rattle.tree.specs.declared.types.Span.{Span}
 use Rattle.tree.specs.declared.types.LitKind.{LitKind}
@@ -19,7 +19,7 @@ use Rattle.tree.specs.declared.types.Literal.{Literal}
 use Rattle.tree.specs.declared.types.Leaf.{Leaf}
 use Rattle.tree.specs.declared.types.Leaf.the-variants as leaves
 use Rattle.tree.specs.declared.types.TokenTree.the-variants as trees
-use Rattle.builder.specs.Given.{wordsOf, noTree, pushed}
+use Rattle.builder.specs.Given.{noTree, pushed}
 
 -- ---- a literal's kind by its word
 

@@ -16,6 +16,7 @@ use Rattle.format.specs.Builder as format
 use Rattle.format.proofs.Each.{both, rule-passed}
 use Rattle.format.proofs.BuilderRestore.{Agrees, agrees-is}
 use Rattle.tree.specs.Refusal.{verdictAnswer}
+use Rattle.tree.proofs.Answers.{answer-passed, answer-refused}
 use Rattle.tree.specs.declared.refusal.Refusal.{Refusal}
 use Rattle.tree.specs.declared.refusal.Verdict.{Verdict as Answer}
 use Rattle.tree.specs.declared.refusal.Verdict.the-variants.{Passed, Refused}
@@ -25,7 +26,6 @@ use Rattle.builder.specs.declared.restore.PointTaken.the-variants as tak
 use Rattle.builder.specs.State.{numbers, stateOf, seen}
 use Rattle.builder.specs.Restoring.{pointOf, pointAnswer, closedFrom}
 use Rattle.builder.specs.Taken.{after, Taken}
-use Rattle.builder.proofs.Answers.{answer-passed, answer-refused}
 use Rattle.builder.proofs.Numbers.{numbers-length, numbers-down}
 use Rattle.builder.proofs.StepReturns.{same, passed-is}
 use Rattle.builder.proofs.TakenReturns.{step-refused, step-passed}

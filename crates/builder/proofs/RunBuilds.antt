@@ -14,6 +14,7 @@ use Rattle.format.specs.Builder as format
 use Rattle.format.specs.Frames.{Model, modelFrom, modelList, modelSkip}
 use Rattle.format.proofs.BuilderBuild.{run-build, run-build-skip, run-rows, run-skip-rows}
 use Rattle.tree.specs.Refusal.{reportAnswer}
+use Rattle.tree.specs.Types.{wordsOf}
 use Rattle.tree.specs.declared.refusal.Report.{Report}
 use Rattle.tree.specs.declared.refusal.Verdict.the-variants.{Passed}
 use Rattle.tree.specs.declared.types.Span.{Span}
@@ -21,7 +22,6 @@ use Rattle.writer.specs.Written.{Written}
 use Rattle.builder.specs.declared.state.Builder.{Builder}
 use Rattle.builder.specs.declared.state.Stepped.{Stepped}
 use Rattle.builder.specs.State.{numbers, seen}
-use Rattle.builder.specs.Given.{wordsOf}
 use Rattle.builder.specs.Taken.{Begun}
 use Rattle.builder.specs.Building.{Made, Built, BuiltSkipping}
 use Rattle.builder.proofs.Numbers.{numbers-length}

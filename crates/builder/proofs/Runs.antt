@@ -11,6 +11,8 @@ use Rattle.format.specs.Frames.{accepted}
 use Rattle.format.proofs.BuilderBuild.{always-agrees}
 use Rattle.format.proofs.BuilderRestore.{Restored, restore-after}
 use Rattle.tree.specs.Refusal.{verdictAnswer}
+use Rattle.tree.specs.Types.{wordsOf}
+use Rattle.tree.proofs.Answers.{answer-passed}
 use Rattle.tree.specs.declared.refusal.Verdict.the-variants.{Passed}
 use Rattle.tree.specs.declared.types.Span.{Span}
 use Rattle.builder.specs.declared.state.Builder.{Builder}
@@ -19,10 +21,8 @@ use Rattle.builder.specs.declared.state.Stepped.{Stepped}
 use Rattle.builder.specs.declared.restore.PointTaken.{PointTaken}
 use Rattle.builder.specs.declared.restore.PointTaken.the-variants as taken
 use Rattle.builder.specs.State.{numbers, seen}
-use Rattle.builder.specs.Given.{wordsOf}
 use Rattle.builder.specs.Restoring.{pointOf, pointAnswer}
 use Rattle.builder.specs.Taken.{noneOpen, Begun, Taken}
-use Rattle.builder.proofs.Answers.{answer-passed}
 use Rattle.builder.proofs.Numbers.{numbers-length}
 use Rattle.builder.proofs.Seen.{Sized, step-sees}
 

@@ -19,13 +19,13 @@ use Rattle.format.proofs.Framed.{Below, below-more, all-before}
 use Rattle.format.proofs.BuilderRun.{after-step}
 use Rattle.format.proofs.BuilderRestore.{Agrees, agrees-is, fit-below}
 use Rattle.tree.specs.Refusal.{verdictAnswer}
+use Rattle.tree.proofs.Answers.{answer-refused}
 use Rattle.tree.specs.declared.refusal.Refusal.{Refusal}
 use Rattle.tree.specs.declared.refusal.Verdict.the-variants.{Passed, Refused}
 use Rattle.builder.specs.declared.state.Builder.{Builder}
 use Rattle.builder.specs.declared.state.Stepped.{Stepped}
 use Rattle.builder.specs.State.{numbers, stateOf, seen}
 use Rattle.builder.specs.Taken.{after, Taken}
-use Rattle.builder.proofs.Answers.{answer-refused}
 use Rattle.builder.proofs.Numbers.{numbers-length}
 use Rattle.builder.proofs.TakenReturns.{open-few}
 

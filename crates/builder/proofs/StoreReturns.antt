@@ -9,6 +9,7 @@ use lib.Seq.{take-suc, take-all, length-take-le}
 use Rattle.format.specs.Word.{put}
 use Rattle.format.specs.WordList.{listCount}
 use Rattle.format.specs.Root.{WordSpan, fiveWords}
+use Rattle.format.proofs.Kept.{kept}
 use Rattle.pack.proofs.Store.{store-1, put-put, put-none}
 use Rattle.builder.specs.State.{closedAt}
 
@@ -47,8 +48,5 @@ module _ (l : List ℕ) (m n : ℕ) (h : m < listCount l) where
 
     pub close-put : (s : WordSpan) (l₂ : List ℕ) → l₂ ≡ put l₁ (13 * m + 8) (fiveWords s) → l₂ ≡ closedAt l m n s
     close-put s l₂ f = f ∙ rw e
-
-pub kept : (a b c : ℕ) → a ≡ b → b ≡ c → a ≡ c
-kept a b c e f = e ∙ f
 
 pub ruleset close-cases = (close-one, close-five, close-put, kept)

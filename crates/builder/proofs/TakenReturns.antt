@@ -17,7 +17,9 @@ use Rattle.format.proofs.Each.{both, rule-passed}
 use Rattle.format.proofs.Framed.{Below}
 use Rattle.format.proofs.BuilderRun.{after-step}
 use Rattle.format.proofs.BuilderRestore.{Agrees, agrees-is, fit-below}
+use Rattle.tree.specs.Types.{wordsOf}
 use Rattle.tree.specs.Refusal.{verdictAnswer}
+use Rattle.tree.proofs.Answers.{answer-passed, answer-refused}
 use Rattle.tree.specs.declared.refusal.Refusal.{Refusal}
 use Rattle.tree.specs.declared.refusal.Verdict.{Verdict as Answer}
 use Rattle.tree.specs.declared.refusal.Verdict.the-variants.{Passed, Refused}
@@ -26,9 +28,8 @@ use Rattle.tree.specs.declared.types.Leaf.{Leaf}
 use Rattle.builder.specs.declared.state.Builder.{Builder}
 use Rattle.builder.specs.declared.state.Stepped.{Stepped}
 use Rattle.builder.specs.State.{numbers, stateOf, seen, closedAt}
-use Rattle.builder.specs.Given.{wordsOf, pushed}
+use Rattle.builder.specs.Given.{pushed}
 use Rattle.builder.specs.Taken.{noneOpen, Begun, after, Taken}
-use Rattle.builder.proofs.Answers.{answer-passed, answer-refused}
 use Rattle.builder.proofs.Numbers.{numbers-length, numbers-down}
 use Rattle.builder.proofs.Pushed.{words-whole}
 

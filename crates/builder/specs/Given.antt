@@ -2,15 +2,10 @@
 use Prim.Native.Nat.{ℕ}
 use mathlib.Core.List.{List, [], _∷_}
 use Rattle.format.specs.Test.{if_then_else_}
-use Rattle.format.specs.Root.{WordSpan}
 use Rattle.tree.specs.Types.{treeWordsOf}
 use Rattle.tree.specs.Words.{tokenFits}
-use Rattle.tree.specs.declared.types.Span.{Span}
 use Rattle.tree.specs.declared.types.Leaf.{Leaf}
 use Rattle.tree.specs.declared.types.TokenTree.the-variants as trees
-
-abbrev pub wordsOf : Span → WordSpan
-wordsOf s = record { file = s .file; ast = s .«ast_id»; context = s .context; start = s .start; len = s .len }
 
 -- a leaf that is pushed, by its 13 words. A raw count or a suffix length above 255 has no place in them ("kind + 256 × raw count +
 -- 65,536 × suffix length"): a leaf out of range stands as a tree of no sort, which row 2 refuses too

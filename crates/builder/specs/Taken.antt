@@ -8,11 +8,11 @@ use Rattle.format.specs.Test.{if_then_else_}
 use Rattle.format.specs.Verdict.{contents}
 use Rattle.format.specs.Builder.{Step, push, openSubtree, closeSubtree, restore, newVerdict, new, builderStep}
 use Rattle.tree.specs.Refusal.{verdictAnswer}
+use Rattle.tree.specs.Types.{wordsOf}
 use Rattle.tree.specs.declared.types.Span.{Span}
 use Rattle.builder.specs.declared.state.Builder.{Builder}
 use Rattle.builder.specs.declared.state.Stepped.{Stepped}
 use Rattle.builder.specs.State.{seen}
-use Rattle.builder.specs.Given.{wordsOf}
 
 -- n trees, none open
 abbrev pub noneOpen : ℕ → Builder

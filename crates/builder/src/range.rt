@@ -14,9 +14,10 @@ ghost use mathlib.Core.Path.{_≡_};
 ghost use Rattle.format.specs.Root.{rangeFits};
 ghost use Rattle.format.specs.Builder.{leafFits, subtreeWords};
 ghost use Rattle.tree.specs.Words.{tokenFits};
+ghost use Rattle.tree.specs.Types.{wordsOf};
 ghost use Rattle.tree.specs.declared.types.TokenTree.the-variants as trees;
 ghost use Rattle.tree.specs.declared.types.Leaf.the-variants as leaves;
-ghost use Rattle.builder.specs.Given.{wordsOf, pushed};
+ghost use Rattle.builder.specs.Given.{pushed};
 
 pub(crate) fn span_fits(span: Span) -> bool
     ensures { λ r. ⌜ r ≡ rangeFits (wordsOf span) ⌝ }

@@ -20,8 +20,9 @@ ghost use Rattle.format.specs.Verdict.{refused};
 ghost use Rattle.format.specs.Builder.{push, openSubtree, closeSubtree};
 ghost use Rattle.format.specs.Builder.{newVerdict, room, pushVerdict, openVerdict, closeVerdict};
 ghost use Rattle.tree.specs.Refusal.{verdictAnswer};
+ghost use Rattle.tree.specs.Types.{wordsOf};
 ghost use Rattle.builder.specs.State.{stateOf};
-ghost use Rattle.builder.specs.Given.{wordsOf, pushed};
+ghost use Rattle.builder.specs.Given.{pushed};
 ghost use Rattle.builder.specs.Taken.{noneOpen, Begun, Taken};
 
 // Row `number` at a tree.

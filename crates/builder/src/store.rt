@@ -5,7 +5,7 @@ ghost use Prim.Native.Nat.{_+_, _*_, _≤_, _<_};
 ghost use lib.ListN.{length};
 ghost use Rattle.format.specs.Word.{put};
 ghost use Rattle.format.specs.WordList.{listCount};
-ghost use Rattle.builder.specs.Given.{wordsOf};
+ghost use Rattle.tree.specs.Types.{wordsOf};
 ghost use Rattle.builder.specs.State.{closedAt};
 
 pub(crate) fn put_words(list: &mut [u32], at: usize, words: &[u32])

@@ -6,13 +6,13 @@ use mathlib.Core.List.{List, [], _∷_}
 use Rattle.format.specs.Verdict as format
 use Rattle.format.specs.Builder.{Step, builderStep, newVerdict, new, pointVerdict, restorePoint}
 use Rattle.format.specs.Builder as steps
+use Rattle.tree.specs.Types.{wordsOf}
 use Rattle.tree.specs.Refusal.{verdictAnswer}
 use Rattle.tree.specs.declared.refusal.Refusal.{Refusal}
 use Rattle.tree.specs.declared.refusal.Verdict.{Verdict}
 use Rattle.tree.specs.declared.refusal.Report.{Report}
 use Rattle.tree.specs.declared.types.Span.{Span}
 use Rattle.builder.specs.State.{seen}
-use Rattle.builder.specs.Given.{wordsOf}
 use Rattle.builder.specs.Restoring.{pointAnswer}
 use Rattle.builder.specs.Taken.{Begun, Taken}
 use Rattle.builder.specs.Building.{Built, BuiltSkipping}

@@ -4,15 +4,14 @@ use mathlib.Core.Bool.{Bool, true, false, not}
 use mathlib.Core.Path.{_≡_, refl, sym, ap, _∙_, subst}
 use mathlib.Core.List.{List, [], _∷_, _++_}
 use native.Mathlib.Omega.{arith}
-use borrow.Author.Tests.{lt-ltb, le-ltb, ne-eqb, not-true, not-false}
-use lib.Dec.{eqb}
+use borrow.Author.Tests.{lt-ltb, le-ltb, not-true, not-false}
 use lib.ListN.{length, getD}
 use Rattle.format.specs.Test.{if_then_else_}
 use Rattle.format.specs.Word.{put}
 use Rattle.format.specs.Reader as format
 use Rattle.format.specs.Reader.{Reader}
 use Rattle.format.specs.Cursor as calls
-use Rattle.format.specs.Cursor.{Open, CursorCall, bump, end, bumpOrEnd, tokenTree, peekTwoLeaves, cursorFits, cursorStep}
+use Rattle.format.specs.Cursor.{CursorCall, bump, end, bumpOrEnd, tokenTree, peekTwoLeaves, cursorStep}
 use Rattle.format.specs.Buffer.{wordShape, ownReader}
 use Rattle.tree.specs.Types.{treeWordsOf}
 use Rattle.tree.specs.declared.refusal.Refusal.{Refusal}
@@ -30,6 +29,8 @@ use Rattle.cursor.specs.declared.look.Ahead.{Ahead}
 use Rattle.cursor.specs.declared.look.TwoLeaves.{TwoLeaves}
 use Rattle.cursor.specs.declared.cursor.Cursor.{Cursor}
 use Rattle.cursor.proofs.OpenReturns.{opened-length}
+use Rattle.cursor.proofs.MovesReturns.{written-none}
+use Rattle.cursor.proofs.CursorRule.{looking}
 use Rattle.export.specs.Replies.{refusedCode}
 use Rattle.export.specs.Steps.{Replied}
 use Rattle.export.specs.Cursors.{callOf, atList, AnswerStored, BothStored, LeavesStored, called, Called, CursorReplied}
@@ -89,29 +90,12 @@ leaves-found l c next words r next′ words′ h q =
 
 -- ---- what a call says and leaves
 
-kept : (f : Open → ℕ) (a : List ℕ) (d : ℕ) (os : List Open) → length os ≤ d → a ≡ written f a d os
-unfolding written
-kept f a d [] h = refl
-kept f a d (o ∷ os) h = let e : eqb (length os) d ≡ false = ne-eqb (length os) d (λ q. below (length os) d q h) in simp e
-  where
-    below : (m n : ℕ) → m ≡ n → suc m ≤ n → ⊥
-    below m n q h = omega arith
-
 module _ (b : List ℕ) (k : ℕ) (parts symbols : List ℕ) (c : At) (ns cs ps : List ℕ) where
   abbrev O : Reader (List ℕ)
   O = ownReader b k parts symbols
 
   abbrev C : calls.Cursor
   C = cursorOf c ns cs ps
-
-  looking : (cursorStep wordShape O tokenTree C .1 ≡ C) × (cursorStep wordShape O peekTwoLeaves C .1 ≡ C)
-  unfolding cursorStep
-  looking = go _ _ refl refl
-    where
-      go : (x y : Bool) → O .sized ≡ x → cursorFits wordShape O C ≡ y → (cursorStep wordShape O tokenTree C .1 ≡ C) × (cursorStep wordShape O peekTwoLeaves C .1 ≡ C)
-      go false y f g = (simp f, simp f)
-      go true false f g = (simp (f, g), simp (f, g))
-      go true true f g = (simp (f, g), simp (f, g))
 
   -- a call that leaves the cursor as it is
   stays : (call : CursorCall) (a : format.Answer (List ℕ)) → a ≡ cursorStep wordShape O call C .0 → cursorStep wordShape O call C .1 ≡ C
@@ -123,9 +107,9 @@ module _ (b : List ℕ) (k : ℕ) (parts symbols : List ℕ) (c : At) (ns cs ps 
       record {
         answer = e;
         state = t ∙ ap stateOf (sym s);
-        numbers = kept (λ o. o .number) ns (c .depth) (C .opened) l ∙ ap (λ (x : calls.Cursor). written (λ o. o .number) ns (c .depth) (x .opened)) (sym s);
-        counts = kept (λ o. o .count) cs (c .depth) (C .opened) l ∙ ap (λ (x : calls.Cursor). written (λ o. o .count) cs (c .depth) (x .opened)) (sym s);
-        places = kept (λ o. o .place) ps (c .depth) (C .opened) l ∙ ap (λ (x : calls.Cursor). written (λ o. o .place) ps (c .depth) (x .opened)) (sym s);
+        numbers = written-none (λ o. o .number) ns (c .depth) (C .opened) l ∙ ap (λ (x : calls.Cursor). written (λ o. o .number) ns (c .depth) (x .opened)) (sym s);
+        counts = written-none (λ o. o .count) cs (c .depth) (C .opened) l ∙ ap (λ (x : calls.Cursor). written (λ o. o .count) cs (c .depth) (x .opened)) (sym s);
+        places = written-none (λ o. o .place) ps (c .depth) (C .opened) l ∙ ap (λ (x : calls.Cursor). written (λ o. o .place) ps (c .depth) (x .opened)) (sym s);
       }
 
   moves : (call : CursorCall) (a : Answer) (c′ : At) (ns′ cs′ ps′ : List ℕ) → Moves b k parts symbols call c ns cs ps a c′ ns′ cs′ ps′
@@ -146,14 +130,14 @@ module _ (b : List ℕ) (k : ℕ) (parts symbols : List ℕ) (c : At) (ns cs ps 
       → Called b k parts symbols (callOf n) c ns cs ps (answerWords (answerOf a)) c ns cs ps
   call-token-tree n a h f g i t =
       let e : n ≡ 3 = omega arith in
-      rw e (stays tokenTree (answerWords (answerOf a)) (t .words) (looking .0))
+      rw e (stays tokenTree (answerWords (answerOf a)) (t .words) (looking b k parts symbols C .0))
 
   peeked : (n : ℕ) (l : TwoLeaves) → 4 ≤ n → Peeks b k parts symbols c ns cs ps l → Called b k parts symbols (callOf n) c ns cs ps (answerWords (peekOf l)) c ns cs ps
   peeked zero l h p = absurd (omega arith)
   peeked (suc zero) l h p = absurd (omega arith)
   peeked (suc (suc zero)) l h p = absurd (omega arith)
   peeked (suc (suc (suc zero))) l h p = absurd (omega arith)
-  peeked (suc (suc (suc (suc n)))) l h p = stays peekTwoLeaves (answerWords (peekOf l)) (p .words) (looking .1)
+  peeked (suc (suc (suc (suc n)))) l h p = stays peekTwoLeaves (answerWords (peekOf l)) (p .words) (looking b k parts symbols C .1)
 
   -- ---- the reply
 

@@ -6,10 +6,10 @@ use mathlib.Core.List.{List, [], _∷_}
 use Rattle.format.specs.Verdict.{Verdict, contents}
 use Rattle.format.specs.Builder.{Step, builderStep, newVerdict, new, pointVerdict, restorePoint, build, buildSkipTopSubtree}
 use Rattle.format.specs.Builder as format
+use Rattle.tree.specs.Types.{wordsOf}
 use Rattle.tree.specs.Refusal.{verdictAnswer, reportAnswer}
 use Rattle.tree.specs.declared.types.Span.{Span}
 use Rattle.builder.specs.State.{seen}
-use Rattle.builder.specs.Given.{wordsOf}
 use Rattle.builder.specs.Restoring.{pointAnswer}
 use Rattle.builder.specs.Taken.{noneOpen, after}
 use Rattle.builder.specs.declared.state.Builder.{Builder}

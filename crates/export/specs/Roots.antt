@@ -5,8 +5,8 @@ use mathlib.Core.List.{List}
 use lib.ListN.{getD}
 use Rattle.format.specs.Root.{kindVerdict, kindAfter, spansVerdict, spansAfter, partsAfter}
 use Rattle.tree.specs.Refusal.{verdictAnswer}
+use Rattle.tree.specs.Types.{wordsOf}
 use Rattle.tree.specs.declared.types.Span.{Span}
-use Rattle.root.specs.Rewrite.{wordsOf}
 use Rattle.export.specs.Replies.{verdictCode}
 
 -- the span of five words

@@ -11,7 +11,7 @@ use builder::state::Stepped;
 use tree::raw::place as wide;
 ghost use mathlib.Core.Path.{_≡_};
 ghost use Rattle.format.specs.Builder.{push, openSubtree, closeSubtree, restore};
-ghost use Rattle.builder.specs.Given.{wordsOf};
+ghost use Rattle.tree.specs.Types.{wordsOf};
 ghost use Rattle.export.specs.Roots.{spanFrom};
 ghost use Rattle.export.specs.Builders.{lent, StepStored, StepReplied, NewReplied};
 ghost use Rattle.export.specs.Builders.{PointReplied, BuildReplied};
