@@ -2,6 +2,8 @@ use Prim.Native.Nat.{_-_, _≤_}
 use mathlib.Core.Path.{_≡_}
 use lib.ListN.{length}
 use Rattle.format.specs.WordList.{listCount}
+use Rattle.format.specs.Verdict.{refused}
+use Rattle.tree.specs.Refusal.{verdictAnswer}
 use Rattle.list.proofs.Returns.{Passing}
 use borrow.Author.Needs.{needs}
 use Rattle.list.proofs.Returns.{pass-cases}
@@ -51,7 +53,7 @@ same-length c = search (needs, pass-cases)
 
 -- src/sized.rt:127:13
 returns : tie.Need-returns Inv-loop μ-loop
-returns c = search (needs, pass-cases)
+returns c = let q : _ ≡ verdictAnswer (refused 3 _) = c .refused .ensures in search (needs, pass-cases, q)
 
 -- src/sized.rt:130:13
 refused-requires-2 : tie.Need-refused-requires-2 Inv-loop μ-loop
@@ -63,7 +65,7 @@ same-length-2 c = search (needs, pass-cases)
 
 -- src/sized.rt:130:13
 returns-2 : tie.Need-returns-2 Inv-loop μ-loop
-returns-2 c = search (needs, pass-cases)
+returns-2 c = let q : _ ≡ verdictAnswer (refused 4 _) = c .refused2 .ensures in search (needs, pass-cases, q)
 
 -- src/sized.rt:132:19
 cast-ends : tie.Need-cast-ends Inv-loop μ-loop
