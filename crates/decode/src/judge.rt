@@ -108,14 +108,14 @@ fn row_from(n: u32, at: usize, next: usize, root: bool, below: bool) -> u32
 
 // ---- the rows of tree n by its sort. They take numbers: a span handed on whole would be copied where it is not needed
 
-pub fn punct_row(parts: usize, n: u32, at: usize, next: usize, part: u32) -> u32
+pub(crate) fn punct_row(parts: usize, n: u32, at: usize, next: usize, part: u32) -> u32
     ensures { λ r. ⌜ r ≡ rowFrom n at next false (ltb (part + 2) parts) ⌝ }
 {
     row_from(n, at, next, false, part_in(parts, part))
 }
 
 // An ident or a literal.
-pub fn symbol_row(
+pub(crate) fn symbol_row(
     parts: usize,
     symbols: usize,
     n: u32,
@@ -129,7 +129,14 @@ pub fn symbol_row(
     row_from(n, at, next, false, both_in(parts, symbols, part, symbol))
 }
 
-pub fn subtree_row(parts: usize, n: u32, at: usize, next: usize, opening: u32, closing: u32) -> u32
+pub(crate) fn subtree_row(
+    parts: usize,
+    n: u32,
+    at: usize,
+    next: usize,
+    opening: u32,
+    closing: u32,
+) -> u32
     ensures { λ r. ⌜ r ≡ rowFrom n at next
         (eqb (opening + 2) parts && eqb (closing + 1) parts)
         (ltb (opening + 2) parts && ltb (closing + 2) parts) ⌝ }

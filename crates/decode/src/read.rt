@@ -318,7 +318,7 @@ fn ident_at(b: &[u8], at: usize, span: PackedSpan) -> RawRead
 }
 
 // The tree at a place, with its fields in range, or 7 or 2.
-pub fn raw_at(b: &[u8], at: usize) -> RawRead
+pub(crate) fn raw_at(b: &[u8], at: usize) -> RawRead
     ensures { λ r. ⌜ r ≡ rawAnswer (inRange (treeAt (now (b .entry)) at)) ⌝ }
 {
     let SpanRead::Read(head) = decode_span(b, at) else {

@@ -74,7 +74,7 @@ fn parts_fit(opening: PackedSpan, closing: PackedSpan) -> bool
 }
 
 // Whether the indices of a tree can be packed.
-pub fn indices_fit(tree: RawTree) -> bool
+pub(crate) fn indices_fit(tree: RawTree) -> bool
     ensures { λ r. ⌜ r ≡ indices (rawOf tree) ⌝ }
 {
     match tree {
@@ -260,13 +260,7 @@ fn put_equal(out: &mut [u8], at: usize, p: RawSubtree, children: ChildrenBytes)
 {
     let distance = p.closing.start - p.opening.start;
     let next = put_span(out, at, p.opening, 0);
-    put_counts(
-        out,
-        next,
-        1 + 8 * p.kind + 32 * distance,
-        p.len,
-        children,
-    );
+    put_counts(out, next, 1 + 8 * p.kind + 32 * distance, p.len, children);
 }
 
 fn put_two_parts(out: &mut [u8], at: usize, p: RawSubtree, children: ChildrenBytes)

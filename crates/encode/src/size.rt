@@ -113,7 +113,7 @@ fn fits_two_parts(p: RawSubtree, children: ChildrenBytes) -> bool
     true
 }
 
-pub fn form_of(p: RawSubtree, children: ChildrenBytes) -> SubtreeForm
+pub(crate) fn form_of(p: RawSubtree, children: ChildrenBytes) -> SubtreeForm
     ensures { λ r. ⌜ r ≡ subtreeForm (spanOf (p .opening)) (spanOf (p .closing)) (p .len .0) (children .0) ⌝ }
 {
     if fits_brackets(p, children) {
@@ -129,7 +129,7 @@ pub fn form_of(p: RawSubtree, children: ChildrenBytes) -> SubtreeForm
 }
 
 // The control base of the four literals that have a short form, 0 for any other.
-pub fn short_base(kind: u32, raw_count: u32) -> u32
+pub(crate) fn short_base(kind: u32, raw_count: u32) -> u32
     ensures { λ r. ⌜ (r ≡ shortBase kind «raw_count») × (r ≤ 12) ⌝ }
 {
     if kind == 4 {
@@ -151,7 +151,7 @@ pub fn short_base(kind: u32, raw_count: u32) -> u32
 }
 
 // Whether the short form holds the literal.
-pub fn is_short(p: RawLiteral) -> bool
+pub(crate) fn is_short(p: RawLiteral) -> bool
     ensures { λ r. ⌜ r ≡ (ltb 0 (shortBase (p .kind) (p .«raw_count»)) && leb (p .«suffix_len») 15) ⌝ }
 {
     if short_base(p.kind, p.raw_count) == 0 {
@@ -164,13 +164,13 @@ pub fn is_short(p: RawLiteral) -> bool
 }
 
 // The size of a span in its smallest form, with its bound.
-pub fn small_span(span: PackedSpan) -> usize
+pub(crate) fn small_span(span: PackedSpan) -> usize
     ensures { λ r. ⌜ (r ≡ length (spanBytes 0 (spanOf span))) × (r ≤ 12) ⌝ }
 {
     span_size(span, false)
 }
 
-pub fn small_symbol(index: u32) -> usize
+pub(crate) fn small_symbol(index: u32) -> usize
     ensures { λ r. ⌜ (r ≡ length (symbolBytes 0 index)) × (r ≤ 4) ⌝ }
 {
     symbol_size(index)
@@ -194,7 +194,7 @@ fn ident_size(p: RawIdent) -> usize
     span + symbol
 }
 
-pub fn literal_size(p: RawLiteral) -> usize
+pub(crate) fn literal_size(p: RawLiteral) -> usize
     ensures { λ r. ⌜ r ≡ length (treeBytes 1 (literalRaw p) 0) ⌝ }
 {
     let span = small_span(p.span);
@@ -208,7 +208,7 @@ pub fn literal_size(p: RawLiteral) -> usize
     span + 2 + symbol
 }
 
-pub fn subtree_size(p: RawSubtree, children: ChildrenBytes) -> usize
+pub(crate) fn subtree_size(p: RawSubtree, children: ChildrenBytes) -> usize
     ensures { λ r. ⌜ r ≡ length (treeBytes 1 (subtreeRaw p) (children .0)) ⌝ }
 {
     let form = form_of(p, children);
@@ -239,7 +239,7 @@ pub fn subtree_size(p: RawSubtree, children: ChildrenBytes) -> usize
 }
 
 // The bytes that a tree below the root takes, a subtree's by the bytes of its children.
-pub fn tree_size(tree: RawTree, children: ChildrenBytes) -> usize
+pub(crate) fn tree_size(tree: RawTree, children: ChildrenBytes) -> usize
     ensures { λ r. ⌜ r ≡ length (treeBytes 1 (rawOf tree) (children .0)) ⌝ }
 {
     match tree {

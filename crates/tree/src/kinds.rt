@@ -84,7 +84,7 @@ pub fn lit_kind_from(kind: u32, raw_count: u32) -> LitKindRead
 
 // ---- and back
 
-pub fn spacing_word(x: Spacing) -> u32
+pub(crate) fn spacing_word(x: Spacing) -> u32
     ensures { λ r. ⌜ r ≡ spacingWord x ⌝ }
 {
     match x {
@@ -94,7 +94,7 @@ pub fn spacing_word(x: Spacing) -> u32
     }
 }
 
-pub fn is_raw_word(x: IdentIsRaw) -> u32
+pub(crate) fn is_raw_word(x: IdentIsRaw) -> u32
     ensures { λ r. ⌜ r ≡ isRawWord x ⌝ }
 {
     match x {
@@ -103,7 +103,7 @@ pub fn is_raw_word(x: IdentIsRaw) -> u32
     }
 }
 
-pub fn delimiter_word(d: DelimiterKind) -> u32
+pub(crate) fn delimiter_word(d: DelimiterKind) -> u32
     ensures { λ r. ⌜ r ≡ delimiterWord d ⌝ }
 {
     match d {
