@@ -7,10 +7,11 @@ use Rattle.tree.specs.Words.{tokenFits}
 use Rattle.tree.specs.declared.types.Leaf.{Leaf}
 use Rattle.tree.specs.declared.types.TokenTree.the-variants as trees
 
--- a leaf that is pushed, by its 13 words. A raw count or a suffix length above 255 has no place in them ("kind + 256 × raw count +
--- 65,536 × suffix length"): a leaf out of range stands as a tree of no sort, which row 2 refuses too
+-- words of no sort, which row 2 refuses
 abbrev pub noTree : List ℕ
 noTree = 4 ∷ 0 ∷ 0 ∷ 0 ∷ 0 ∷ 0 ∷ 0 ∷ 0 ∷ 0 ∷ 0 ∷ 0 ∷ 0 ∷ 0 ∷ []
 
+-- a leaf that is pushed, by its 13 words. A raw count or a suffix length above 255 has no place in them ("kind + 256 × raw count +
+-- 65,536 × suffix length"): a leaf out of range stands as a tree of no sort, which row 2 refuses too
 unfoldable pub pushed : Leaf → List ℕ
 pushed leaf = if tokenFits (trees.Leaf leaf) then treeWordsOf (trees.Leaf leaf) else noTree

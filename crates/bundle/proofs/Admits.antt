@@ -10,7 +10,7 @@ use Rattle.format.specs.Reader.{Shape}
 use Rattle.format.specs.Check.{Admitted}
 use Rattle.format.specs.Buffer.{wordShape, ownReader}
 use Rattle.format.specs.Bundle.{Bundle, BundleRead, bundle, badBundle, bundleAt, checkOf, bundleCheck, numberOf}
-use Rattle.bundle.specs.Answer.{readAnswer, readVerdict}
+use Rattle.bundle.specs.Answer.{readAnswer, readNumber}
 use Rattle.bundle.specs.declared.read.BundleRead.{BundleRead as Read}
 use Rattle.bundle.specs.declared.read.BundleRead.the-variants.{Bad}
 use Rattle.format.proofs.CheckRefusal as rows
@@ -67,9 +67,8 @@ module _ (b : List ℕ) (r : ℕ) (says : r ≡ numberOf (bundleCheck b)) where
     admitted-zero a = says ∙ ap numberOf (ap checkOf q ∙ own-complete (B .bytes) (B .trees) (B .parts) (B .symbols) a)
 
   -- what `read_bundle` answers of a bad bundle is what the check says
-  pub bad-refused : (a : Read) → a ≡ readAnswer b (bundleAt b) → a ≡ Bad → bundleCheck b ≡ readVerdict a
-  unfolding readVerdict
-  bad-refused a e f = ap checkOf (bad-read b (bundleAt b) (sym e ∙ f)) ∙ sym (ap readVerdict f)
+  pub bad-refused : (a : Read) → a ≡ readAnswer b (bundleAt b) → a ≡ Bad → bundleCheck b ≡ refused (readNumber a) 0
+  bad-refused a e f = ap checkOf (bad-read b (bundleAt b) (sym e ∙ f)) ∙ sym (ap (λ (x : Read). refused (readNumber x) 0) f)
 
   pub bad-one : bundleAt b ≡ badBundle → r ≡ 1
   bad-one q = says ∙ ap (λ (x : BundleRead). numberOf (checkOf x)) q

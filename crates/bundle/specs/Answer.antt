@@ -6,7 +6,6 @@ use lib.Dec.{leb}
 use lib.ListN.{length}
 use Rattle.format.specs.Test.{if_then_else_}
 use Rattle.format.specs.Word.{wordAt}
-use Rattle.format.specs.Verdict.{Verdict, passed, refused}
 use Rattle.format.specs.Bundle as format
 use Rattle.bundle.specs.declared.read.BundleRead.{BundleRead}
 use Rattle.bundle.specs.declared.read.BundleRead.the-variants.{Bundle, Bad}
@@ -21,10 +20,10 @@ readAnswer b (format.bundle B) =
     Bundle (record { trees = B .trees; parts = length (B .parts) / 3; symbols = length (B .symbols); start = length b - length (B .bytes) })
 readAnswer b format.badBundle = Bad
 
--- what the check says of each case before it looks at a byte: "bad bundle" is 1
-unfoldable pub readVerdict : BundleRead → Verdict
-readVerdict (Bundle y) = passed
-readVerdict Bad = refused 1 0
+-- the refusal's number of each case, 0 for none: "bad bundle" is 1
+abbrev pub readNumber : BundleRead → ℕ
+readNumber (Bundle y) = 0
+readNumber Bad = 1
 
 -- what the record at place p answers, behind so many parts and symbols, where it is none of those
 unfoldable pub lastAnswer : List ℕ → ℕ → ℕ → ℕ → BundleRead

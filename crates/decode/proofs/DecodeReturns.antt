@@ -159,6 +159,11 @@ literal-in p f =
     let c : Bool = if isRawKind (p .kind) then leb (p .«raw_count») 255 else eqb (p .«raw_count») 0 in
     leb-true (p .kind) 10 (and₄ (spanFits (spanOf (p .span))) (leb (p .kind) 10) c (leb (p .«suffix_len») 255) f .1)
 
+pub count-in : (p : RawLiteral) → fields (literalRaw p) ≡ true → (if isRawKind (p .kind) then leb (p .«raw_count») 255 else eqb (p .«raw_count») 0) ≡ true
+count-in p f =
+    let c : Bool = if isRawKind (p .kind) then leb (p .«raw_count») 255 else eqb (p .«raw_count») 0 in
+    and₄ (spanFits (spanOf (p .span))) (leb (p .kind) 10) c (leb (p .«suffix_len») 255) f .2
+
 pub subtree-in : (p : RawSubtree) → fields (subtreeRaw p) ≡ true → p .kind ≤ 3
 subtree-in p f = leb-true (p .kind) 3 (and-right (spanFits (spanOf (p .opening)) && spanFits (spanOf (p .closing))) (leb (p .kind) 3) f)
 
@@ -179,10 +184,10 @@ module _ (p : RawIdent) (f : fields (identRaw p) ≡ true) (a : IsRawRead) (e : 
 
 module _ (p : RawLiteral) (f : fields (literalRaw p) ≡ true) (a : LitKindRead) (e : a ≡ litKindAnswer (p .kind) (p .«raw_count»)) where
   pub literal-kind : (y : LitKind) → a ≡ kinds.Got y → y ≡ litKindOf (p .kind) (p .«raw_count»)
-  literal-kind y q = kind-got (p .kind) (p .«raw_count») (literal-in p f) a e y q
+  literal-kind y q = kind-got (p .kind) (p .«raw_count») (literal-in p f) (count-in p f) a e y q
 
   pub literal-never : (parts symbols : List ℕ) (n at next kids k : ℕ) → a ≡ kinds.Bad k → Refused k ≡ treeAnswer (shownAs parts symbols n at next kids (literalRaw p))
-  literal-never parts symbols n at next kids k q = kind-never (p .kind) (p .«raw_count») (literal-in p f) a e k q
+  literal-never parts symbols n at next kids k q = kind-never (p .kind) (p .«raw_count») (literal-in p f) (count-in p f) a e k q
 
 module _ (p : RawSubtree) (f : fields (subtreeRaw p) ≡ true) (a : DelimiterRead) (e : a ≡ delimiterAnswer (p .kind)) where
   pub subtree-kind : (y : DelimiterKind) → a ≡ delimiters.Got y → y ≡ delimiterOf (p .kind)

@@ -158,7 +158,7 @@ fn tree_row(parts: usize, symbols: usize, n: u32, at: usize, next: usize, tree: 
     }
 }
 
-// Tree n at a place, or the number of the first row that refuses it.
+// Tree n at a place, or the number of the first of the rows 7, 2 and 8 that refuses it.
 pub fn tree_at(b: &[u8], parts: usize, symbols: usize, n: u32, at: usize) -> RawRead
     ensures { λ r. ⌜ r ≡ rawAnswer (judge (λ n t. t) (countRules parts symbols) n at (treeAt (now (b .entry)) at)) ⌝ }
 {

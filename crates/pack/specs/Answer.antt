@@ -25,7 +25,7 @@ unfoldable pub spanAnswer : format.SpanRead → SpanRead
 spanAnswer (format.span x s n) = spans.Read (record { span = packedOf s; extra = x; next = n })
 spanAnswer format.SpanRead.short = spans.Short
 
--- row 7 of each case: "A span that cannot be read ends its tree there, with 7"
+-- the refusal's number of each case, 0 for none: "A span that cannot be read ends its tree there, with 7."
 abbrev pub spanNumber : SpanRead → ℕ
 spanNumber (spans.Read y) = 0
 spanNumber spans.Short = 7

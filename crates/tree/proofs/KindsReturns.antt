@@ -1,8 +1,12 @@
 -- One law for each return of the functions of src/kinds.rt, with premises as the code's tests and calls give them.
-use Prim.Native.Nat.{ℕ, zero, suc, _+_, _*_}
-use mathlib.Core.Path.{_≡_, refl, _∙_}
+use Prim.Native.Nat.{ℕ, zero, suc, _+_, _*_, _≤_}
+use mathlib.Core.Path.{_≡_, refl, sym, _∙_}
 use native.Mathlib.Omega.{arith}
-use borrow.Author.Tests.{lt-leb}
+use borrow.Author.Tests.{le-leb, lt-leb, not-true, not-false}
+use mathlib.Core.Bool.{Bool, true, false, not, _&&_}
+use lib.Dec.{leb, eqb}
+use Rattle.format.specs.Test.{if_then_else_}
+use Rattle.format.specs.Fields.{isRawKind}
 use Rattle.tree.specs.Types.{spacingOf, isRawOf, delimiterOf, litKindOf, spacingAnswer, isRawAnswer, delimiterAnswer, litKindAnswer, spacingWord, isRawWord, delimiterWord, litKindWord}
 use Rattle.tree.specs.declared.types.Spacing.{Spacing}
 use Rattle.tree.specs.declared.types.Spacing.the-variants.{Alone, Joint, JointHidden}
@@ -78,50 +82,63 @@ delimiter-bad (suc (suc zero)) h₀ h₁ h₂ h₃ = absurd (h₂ refl)
 delimiter-bad (suc (suc (suc zero))) h₀ h₁ h₂ h₃ = absurd (h₃ refl)
 delimiter-bad (suc (suc (suc (suc x)))) h₀ h₁ h₂ h₃ = simp (lt-leb (suc (suc (suc (suc x)))) 3 (omega arith))
 
-module _ (k r : ℕ) where
-  pub kind-0 : k ≡ 0 → kinds.Got Byte ≡ litKindAnswer k r
-  unfolding litKindAnswer litKindOf
-  kind-0 h = rw h
+no-and : (x : Bool) → (x && false) ≡ false
+no-and true = refl
+no-and false = refl
 
-  pub kind-1 : k ≡ 1 → kinds.Got Char ≡ litKindAnswer k r
-  unfolding litKindAnswer litKindOf
-  kind-1 h = rw h
+module _ (k r : ℕ) (f : Bool) (e : f ≡ (if isRawKind k then leb r 255 else eqb r 0)) where
+  pub kind-count : not f ≡ true → kinds.Bad 2 ≡ litKindAnswer k r
+  unfolding litKindAnswer
+  kind-count h = let q : (if isRawKind k then leb r 255 else eqb r 0) ≡ false = sym e ∙ not-true f h in rw (q, no-and (leb k 10))
 
-  pub kind-2 : k ≡ 2 → kinds.Got Integer ≡ litKindAnswer k r
-  unfolding litKindAnswer litKindOf
-  kind-2 h = rw h
+  module _ (h : not f ≡ false) where
+    kind-is : k ≤ 10 → kinds.Got (litKindOf k r) ≡ litKindAnswer k r
+    unfolding litKindAnswer
+    kind-is g = let q : (if isRawKind k then leb r 255 else eqb r 0) ≡ true = sym e ∙ not-false f h in rw (le-leb k 10 g, q)
 
-  pub kind-3 : k ≡ 3 → kinds.Got Float ≡ litKindAnswer k r
-  unfolding litKindAnswer litKindOf
-  kind-3 h = rw h
+    pub kind-0 : k ≡ 0 → kinds.Got Byte ≡ litKindAnswer k r
+    unfolding litKindOf
+    kind-0 g = let b : kinds.Got Byte ≡ kinds.Got (litKindOf k r) = rw g in b ∙ kind-is (omega arith)
 
-  pub kind-4 : k ≡ 4 → kinds.Got Str ≡ litKindAnswer k r
-  unfolding litKindAnswer litKindOf
-  kind-4 h = rw h
+    pub kind-1 : k ≡ 1 → kinds.Got Char ≡ litKindAnswer k r
+    unfolding litKindOf
+    kind-1 g = let b : kinds.Got Char ≡ kinds.Got (litKindOf k r) = rw g in b ∙ kind-is (omega arith)
 
-  pub kind-5 : k ≡ 5 → kinds.Got (StrRaw r) ≡ litKindAnswer k r
-  unfolding litKindAnswer litKindOf
-  kind-5 h = rw h
+    pub kind-2 : k ≡ 2 → kinds.Got Integer ≡ litKindAnswer k r
+    unfolding litKindOf
+    kind-2 g = let b : kinds.Got Integer ≡ kinds.Got (litKindOf k r) = rw g in b ∙ kind-is (omega arith)
 
-  pub kind-6 : k ≡ 6 → kinds.Got ByteStr ≡ litKindAnswer k r
-  unfolding litKindAnswer litKindOf
-  kind-6 h = rw h
+    pub kind-3 : k ≡ 3 → kinds.Got Float ≡ litKindAnswer k r
+    unfolding litKindOf
+    kind-3 g = let b : kinds.Got Float ≡ kinds.Got (litKindOf k r) = rw g in b ∙ kind-is (omega arith)
 
-  pub kind-7 : k ≡ 7 → kinds.Got (ByteStrRaw r) ≡ litKindAnswer k r
-  unfolding litKindAnswer litKindOf
-  kind-7 h = rw h
+    pub kind-4 : k ≡ 4 → kinds.Got Str ≡ litKindAnswer k r
+    unfolding litKindOf
+    kind-4 g = let b : kinds.Got Str ≡ kinds.Got (litKindOf k r) = rw g in b ∙ kind-is (omega arith)
 
-  pub kind-8 : k ≡ 8 → kinds.Got CStr ≡ litKindAnswer k r
-  unfolding litKindAnswer litKindOf
-  kind-8 h = rw h
+    pub kind-5 : k ≡ 5 → kinds.Got (StrRaw r) ≡ litKindAnswer k r
+    unfolding litKindOf
+    kind-5 g = let b : kinds.Got (StrRaw r) ≡ kinds.Got (litKindOf k r) = rw g in b ∙ kind-is (omega arith)
 
-  pub kind-9 : k ≡ 9 → kinds.Got (CStrRaw r) ≡ litKindAnswer k r
-  unfolding litKindAnswer litKindOf
-  kind-9 h = rw h
+    pub kind-6 : k ≡ 6 → kinds.Got ByteStr ≡ litKindAnswer k r
+    unfolding litKindOf
+    kind-6 g = let b : kinds.Got ByteStr ≡ kinds.Got (litKindOf k r) = rw g in b ∙ kind-is (omega arith)
 
-  pub kind-10 : k ≡ 10 → kinds.Got Err ≡ litKindAnswer k r
-  unfolding litKindAnswer litKindOf
-  kind-10 h = rw h
+    pub kind-7 : k ≡ 7 → kinds.Got (ByteStrRaw r) ≡ litKindAnswer k r
+    unfolding litKindOf
+    kind-7 g = let b : kinds.Got (ByteStrRaw r) ≡ kinds.Got (litKindOf k r) = rw g in b ∙ kind-is (omega arith)
+
+    pub kind-8 : k ≡ 8 → kinds.Got CStr ≡ litKindAnswer k r
+    unfolding litKindOf
+    kind-8 g = let b : kinds.Got CStr ≡ kinds.Got (litKindOf k r) = rw g in b ∙ kind-is (omega arith)
+
+    pub kind-9 : k ≡ 9 → kinds.Got (CStrRaw r) ≡ litKindAnswer k r
+    unfolding litKindOf
+    kind-9 g = let b : kinds.Got (CStrRaw r) ≡ kinds.Got (litKindOf k r) = rw g in b ∙ kind-is (omega arith)
+
+    pub kind-10 : k ≡ 10 → kinds.Got Err ≡ litKindAnswer k r
+    unfolding litKindOf
+    kind-10 g = let b : kinds.Got Err ≡ kinds.Got (litKindOf k r) = rw g in b ∙ kind-is (omega arith)
 
 pub kind-bad : (k r : ℕ) → (k ≡ 0 → ⊥) → (k ≡ 1 → ⊥) → (k ≡ 2 → ⊥) → (k ≡ 3 → ⊥) → (k ≡ 4 → ⊥) → (k ≡ 5 → ⊥) → (k ≡ 6 → ⊥) → (k ≡ 7 → ⊥) → (k ≡ 8 → ⊥) → (k ≡ 9 → ⊥) → (k ≡ 10 → ⊥) → kinds.Bad 2 ≡ litKindAnswer k r
 unfolding litKindAnswer
@@ -138,7 +155,7 @@ kind-bad (suc (suc (suc (suc (suc (suc (suc (suc (suc zero))))))))) r h₀ h₁ 
 kind-bad (suc (suc (suc (suc (suc (suc (suc (suc (suc (suc zero)))))))))) r h₀ h₁ h₂ h₃ h₄ h₅ h₆ h₇ h₈ h₉ h₁₀ = absurd (h₁₀ refl)
 kind-bad (suc (suc (suc (suc (suc (suc (suc (suc (suc (suc (suc k))))))))))) r h₀ h₁ h₂ h₃ h₄ h₅ h₆ h₇ h₈ h₉ h₁₀ = simp (lt-leb (suc (suc (suc (suc (suc (suc (suc (suc (suc (suc (suc k))))))))))) 10 (omega arith))
 
-pub ruleset number-cases = (spacing-0, spacing-1, spacing-2, raw-0, raw-1, delimiter-0, delimiter-1, delimiter-2, delimiter-3, spacing-bad, raw-bad, delimiter-bad, kind-0, kind-1, kind-2, kind-3, kind-4, kind-5, kind-6, kind-7, kind-8, kind-9, kind-10, kind-bad)
+pub ruleset number-cases = (spacing-0, spacing-1, spacing-2, raw-0, raw-1, delimiter-0, delimiter-1, delimiter-2, delimiter-3, spacing-bad, raw-bad, delimiter-bad, kind-0, kind-1, kind-2, kind-3, kind-4, kind-5, kind-6, kind-7, kind-8, kind-9, kind-10, kind-count, kind-bad)
 
 -- ---- and back
 

@@ -3,6 +3,10 @@ use Prim.Native.Nat.{ℕ, _≤_}
 use mathlib.Core.Path.{_≡_, sym, _∙_}
 use native.Mathlib.Omega.{arith}
 use borrow.Author.Tests.{le-leb}
+use mathlib.Core.Bool.{true}
+use lib.Dec.{leb, eqb}
+use Rattle.format.specs.Test.{if_then_else_}
+use Rattle.format.specs.Fields.{isRawKind}
 use Rattle.tree.specs.Types.{spacingOf, isRawOf, delimiterOf, litKindOf, spacingAnswer, isRawAnswer, delimiterAnswer, litKindAnswer}
 use Rattle.tree.specs.declared.types.Spacing.{Spacing}
 use Rattle.tree.specs.declared.types.IdentIsRaw.{IdentIsRaw}
@@ -74,10 +78,10 @@ kind-same y z e = cc
 kind-apart : {A : Type 0} (k : ℕ) (y : LitKind) → kinds.Bad k ≡ kinds.Got y → A
 kind-apart k y e = let z : _≡_ {A = ℕ} 0 1 = cc in absurd (omega arith)
 
-module _ (x r : ℕ) (h : x ≤ 10) (a : LitKindRead) (e : a ≡ litKindAnswer x r) where
+module _ (x r : ℕ) (h : x ≤ 10) (g : (if isRawKind x then leb r 255 else eqb r 0) ≡ true) (a : LitKindRead) (e : a ≡ litKindAnswer x r) where
   kind-is : litKindAnswer x r ≡ kinds.Got (litKindOf x r)
   unfolding litKindAnswer
-  kind-is = simp (le-leb x 10 h)
+  kind-is = rw (le-leb x 10 h, g)
 
   pub kind-got : (y : LitKind) → a ≡ kinds.Got y → y ≡ litKindOf x r
   kind-got y q = kind-same y (litKindOf x r) (sym q ∙ e ∙ kind-is)

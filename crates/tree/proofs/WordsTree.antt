@@ -5,7 +5,9 @@ use mathlib.Core.Path.{_≡_, sym, subst, _∙_}
 use native.Mathlib.Omega.{arith}
 use mathlib.Core.List.{List, _∷_, _++_}
 use borrow.Author.Tests.{leb-true, eq-eqb, ne-eqb, not-true, not-false}
-use lib.Dec.{eqb}
+use lib.Dec.{leb, eqb}
+use Rattle.format.specs.Test.{if_then_else_}
+use Rattle.format.specs.Fields.{isRawKind}
 use Rattle.format.specs.WordList.{wordOf, rawFrom, wordFields}
 use Rattle.tree.specs.Raw.{rawTree}
 use Rattle.tree.specs.Types.{spacingAnswer, isRawAnswer, delimiterAnswer, litKindAnswer, spacingWord, isRawWord, delimiterWord, litKindWord, spanList, zeros, treeWordsOf}
@@ -59,13 +61,13 @@ module _ (x y : ℕ) (s : Span) where
     pub ident-never : (k : ℕ) → a ≡ raws.Bad k → Bad k ≡ Got (identFrom x y s)
     ident-never k q = is-raw-never y h a e k q
 
-  module _ (h : y % 256 ≤ 10) (a : LitKindRead) (e : a ≡ litKindAnswer (y % 256) (y / 256 % 256)) where
+  module _ (h : y % 256 ≤ 10) (g : (if isRawKind (y % 256) then leb (y / 256 % 256) 255 else eqb (y / 256 % 256) 0) ≡ true) (a : LitKindRead) (e : a ≡ litKindAnswer (y % 256) (y / 256 % 256)) where
     pub literal-got : (z : LitKind) → a ≡ kinds.Got z
         → Got (trees.Leaf (leaves.Literal (record { «text_and_suffix» = x; span = s; kind = z; «suffix_len» = y / 65536 }))) ≡ Got (literalFrom x y s)
-    literal-got z q = rw (kind-got (y % 256) (y / 256 % 256) h a e z q)
+    literal-got z q = rw (kind-got (y % 256) (y / 256 % 256) h g a e z q)
 
     pub literal-never : (k : ℕ) → a ≡ kinds.Bad k → Bad k ≡ Got (literalFrom x y s)
-    literal-never k q = kind-never (y % 256) (y / 256 % 256) h a e k q
+    literal-never k q = kind-never (y % 256) (y / 256 % 256) h g a e k q
 
   module _ (t : Span) (h : y ≤ 3) (a : DelimiterRead) (e : a ≡ delimiterAnswer y) where
     pub subtree-got : (z : DelimiterKind) → a ≡ delimiters.Got z → Got (trees.Subtree (record { opening = s; closing = t; len = record { 0 = x }; kind = z })) ≡ Got (subtreeFrom x y s t)
@@ -85,6 +87,10 @@ module _ (l : List ℕ) (n w₀ w₂ : ℕ) (h : wordFields (wordOf l n) ≡ tru
 
   pub literal-asks : w₀ ≡ 2 → w₂ % 256 ≤ 10
   literal-asks q = let f : wordOf l n 2 % 256 ≤ 10 = leb-true _ _ (literal-fit (wordOf l n) h (sym e₀ ∙ q) .0) in subst (λ (x : ℕ). x % 256 ≤ 10) (sym e₂) f
+
+  pub count-asks : w₀ ≡ 2 → (if isRawKind (w₂ % 256) then leb (w₂ / 256 % 256) 255 else eqb (w₂ / 256 % 256) 0) ≡ true
+  count-asks q =
+      subst (λ (x : ℕ). (if isRawKind (x % 256) then leb (x / 256 % 256) 255 else eqb (x / 256 % 256) 0) ≡ true) (sym e₂) (literal-fit (wordOf l n) h (sym e₀ ∙ q) .1)
 
   pub subtree-asks : (w₀ ≡ 0 → ⊥) → (w₀ ≡ 1 → ⊥) → (w₀ ≡ 2 → ⊥) → w₂ ≤ 3
   subtree-asks f g i =
@@ -155,6 +161,7 @@ pub ruleset whole-cases = (
   punct-asks,
   ident-asks,
   literal-asks,
+  count-asks,
   subtree-asks,
   whole-punct,
   whole-ident,

@@ -1,9 +1,11 @@
--- The source's tree of a tree with indices, by the entries of the tables, and the list words of such a tree.
+-- The source's kinds of numbers; its tree of a tree with indices, by the entries of the tables; and the list words of such a tree.
 use Prim.Native.Nat.{ℕ, _+_, _*_, _%_}
 use mathlib.Core.List.{List, [], _∷_, _++_}
 use lib.ListN.{getD}
+use mathlib.Core.Bool.{_&&_}
 use lib.Dec.{leb, eqb}
 use Rattle.format.specs.Test.{if_then_else_}
+use Rattle.format.specs.Fields.{isRawKind}
 use Rattle.format.specs.Span as format
 use Rattle.format.specs.Root.{WordSpan}
 use Rattle.format.specs.Tree.{Raw, punct, ident, literal, subtree}
@@ -69,9 +71,9 @@ isRawAnswer x = if leb x 1 then raws.Got (isRawOf x) else raws.Bad 2
 unfoldable pub delimiterAnswer : ℕ → DelimiterRead
 delimiterAnswer d = if leb d 3 then delimiters.Got (delimiterOf d) else delimiters.Bad 2
 
--- "Literal kinds 0 to 10"
+-- "Literal kinds 0 to 10", "The raw count is zero except for kinds 5, 7, 9; it and the suffix length are at most 255."
 unfoldable pub litKindAnswer : ℕ → ℕ → LitKindRead
-litKindAnswer k r = if leb k 10 then kinds.Got (litKindOf k r) else kinds.Bad 2
+litKindAnswer k r = if leb k 10 && (if isRawKind k then leb r 255 else eqb r 0) then kinds.Got (litKindOf k r) else kinds.Bad 2
 
 -- ---- by the entries of the tables
 

@@ -85,7 +85,7 @@ fn is_zero(x: u32) -> bool
     }
 }
 
-fn raw_count_fits(kind: u32, raw_count: u32) -> bool
+pub(crate) fn raw_count_fits(kind: u32, raw_count: u32) -> bool
     ensures { λ r. ⌜ r ≡ (if isRawKind kind then leb «raw_count» 255 else eqb «raw_count» 0) ⌝ }
 {
     if !is_raw_kind(kind) {

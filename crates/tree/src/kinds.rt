@@ -1,4 +1,5 @@
-// The numbers of the list words as the source's kinds, where row 2 is silent on them, and back.
+// The numbers of the list words as the source's kinds, or 2 where they are none, and back.
+use crate::fields::raw_count_fits;
 use crate::types::DelimiterKind;
 use crate::types::IdentIsRaw;
 use crate::types::LitKind;
@@ -62,10 +63,13 @@ pub fn delimiter_from(d: u32) -> DelimiterRead
     }
 }
 
-// The raw count belongs to three of the kinds, and row 2 of it is not asked here.
+// A raw count belongs to three of the kinds.
 pub fn lit_kind_from(kind: u32, raw_count: u32) -> LitKindRead
     ensures { λ r. ⌜ r ≡ litKindAnswer kind «raw_count» ⌝ }
 {
+    if !raw_count_fits(kind, raw_count) {
+        return LitKindRead::Bad(2);
+    }
     match kind {
         0 => LitKindRead::Got(LitKind::Byte),
         1 => LitKindRead::Got(LitKind::Char),

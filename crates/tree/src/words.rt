@@ -30,7 +30,10 @@ use pack::span::PackedSpan;
 ghost use mathlib.Core.Path.{_≡_};
 ghost use mathlib.Core.List.{_∷_, _++_};
 ghost use mathlib.Core.Bool.{true};
-ghost use Prim.Native.Nat.{_+_, _*_, _%_, _<_, _≤_};
+ghost use Prim.Native.Nat.{_+_, _*_, _/_, _%_, _<_, _≤_};
+ghost use lib.Dec.{leb, eqb};
+ghost use Rattle.format.specs.Test.{if_then_else_};
+ghost use Rattle.format.specs.Fields.{isRawKind};
 ghost use Rattle.format.specs.WordList.{wordOf, rawFrom, noClose, wordFields};
 ghost use Rattle.tree.specs.Raw.{rawTree};
 ghost use Rattle.tree.specs.Types.{litKindWord, spanList, treeWordsOf};
@@ -235,7 +238,8 @@ fn whole_ident(sym: u32, raw: u32, span: Span) -> WordsRead
 }
 
 fn whole_literal(sym: u32, second: u32, span: Span) -> WordsRead
-    requires { ⌜ second % 256 ≤ 10 ⌝ }
+    requires { ⌜ (second % 256 ≤ 10)
+        × ((if isRawKind (second % 256) then leb (second / 256 % 256) 255 else eqb (second / 256 % 256) 0) ≡ true) ⌝ }
     ensures { λ r. ⌜ r ≡ reads.Got (literalFrom sym second span) ⌝ }
 {
     match lit_kind_from(second % 256, second / 256 % 256) {

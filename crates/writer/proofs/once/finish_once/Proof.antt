@@ -34,7 +34,7 @@ same-length c = search (needs, finish-cases)
 
 -- src/once.rt:44:1
 returns-2 : tie.Need-returns-2
-returns-2 c = search (needs, finish-cases)
+returns-2 c = search (needs, finish-cases) depth 2
 
 pub finish-once-spec : {M : Type 1} → statement M
 finish-once-spec =

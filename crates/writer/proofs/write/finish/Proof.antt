@@ -58,7 +58,7 @@ same-length-6 c = search (needs, finish-cases)
 returns-2 : tie.Need-returns-2
 returns-2 c =
     let p = c .before .before .before .before .before .before .before .before .before .before .before .before .before .before .before .before .before .before .before .before .before .before .before .before .before .before .before .before .before .before .before .before .pre in
-    search (needs, finish-cases, p)
+    search (needs, finish-cases, p) depth 2
 
 pub finish-spec : {M : Type 1} → statement M
 finish-spec =
