@@ -19,7 +19,10 @@ use Rattle.format.specs.Tree.{Raw, punct, ident, literal, subtree, treeA
 use Rattle.format.specs.Tables.{rules, Tables, partIn, symbolIn, indexedBelow, rowEight, tablesSized, spanWords, treeWords, ownTables}
 use Rattle.format.specs.Buffer.{judge, wordShape, reader, ownReader}
 use Rattle.format.specs.Root.{RootOnly}
+use Rattle.format.specs.Width.{partSize, treeSize}
+use Rattle.format.specs.Part.{spanList, noSpan}
 use Rattle.format.proofs.Each.{and-left, and-right, and₃}
+use Rattle.format.proofs.PartLaw.{entry-same}
 use Rattle.format.proofs.TreeBounds.{Ended, tree-ended}
 use Rattle.format.proofs.CheckLaw.{next-place}
 use Rattle.format.proofs.Reading.{Clean, clean-read, each-clean}
@@ -62,27 +65,25 @@ module _ {Tree : Type 0} (S : Shape Tree) (L M : Listing Tree) (size : M .k ≡ 
 
 -- ---- two part tables that differ in the last two parts alone: the words of a tree below the root
 
-module _ (parts parts′ symbols : List ℕ) (entries : (i : ℕ) → i + 6 < length parts → getD parts′ i 0 ≡ getD parts i 0) where
-  span-words : (s : Span) → partIn (length parts / 3) (length symbols) s ≡ true → spanWords parts′ symbols s ≡ spanWords parts symbols s
+module _ (parts parts′ symbols : List ℕ) (entries : (i : ℕ) → i + 2 * partSize < length parts → getD parts′ i 0 ≡ getD parts i 0) where
+  span-words : (s : Span) → partIn (length parts / partSize) (length symbols) s ≡ true → spanWords parts′ symbols s ≡ spanWords parts symbols s
   span-words s h =
-      let l = ltb-true (s .index + 2) (length parts / 3) h in
-      let x = entries (3 * s .index) (omega arith) in
-      let y = entries (3 * s .index + 1) (omega arith) in
-      let z = entries (3 * s .index + 2) (omega arith) in
-      simp (x, y, z)
+      let l = ltb-true (s .index + 2) (length parts / partSize) h in
+      let e = entry-same parts′ parts (s .index) (s .index) (λ j k. entries (partSize * s .index + j) (omega arith)) in
+      ap (λ p. spanList (record { part = p; start = s .start; len = s .len })) e
 
-  pub words-kept : (t : Raw) → indexedBelow (length parts / 3) (length symbols) t ≡ true → treeWords parts′ symbols t ≡ treeWords parts symbols t
+  pub words-kept : (t : Raw) → indexedBelow (length parts / partSize) (length symbols) t ≡ true → treeWords parts′ symbols t ≡ treeWords parts symbols t
   unfolding treeWords
-  words-kept (punct s c x) h = ap (λ w. 0 ∷ c ∷ x ∷ w ++ (0 ∷ 0 ∷ 0 ∷ 0 ∷ 0 ∷ [])) (span-words s h)
+  words-kept (punct s c x) h = ap (λ w. 0 ∷ c ∷ x ∷ w ++ spanList noSpan) (span-words s h)
   words-kept (ident s i r) h =
-      let e = span-words s (and-left (partIn (length parts / 3) (length symbols) s) (symbolIn (length parts / 3) (length symbols) i) h) in
-      ap (λ w. 1 ∷ getD symbols i 0 ∷ r ∷ w ++ (0 ∷ 0 ∷ 0 ∷ 0 ∷ 0 ∷ [])) e
+      let e = span-words s (and-left (partIn (length parts / partSize) (length symbols) s) (symbolIn (length parts / partSize) (length symbols) i) h) in
+      ap (λ w. 1 ∷ getD symbols i 0 ∷ r ∷ w ++ spanList noSpan) e
   words-kept (literal s i k r x) h =
-      let e = span-words s (and-left (partIn (length parts / 3) (length symbols) s) (symbolIn (length parts / 3) (length symbols) i) h) in
-      ap (λ w. 2 ∷ getD symbols i 0 ∷ (k + 256 * r + 65536 * x) ∷ w ++ (0 ∷ 0 ∷ 0 ∷ 0 ∷ 0 ∷ [])) e
+      let e = span-words s (and-left (partIn (length parts / partSize) (length symbols) s) (symbolIn (length parts / partSize) (length symbols) i) h) in
+      ap (λ w. 2 ∷ getD symbols i 0 ∷ (k + 256 * r + 65536 * x) ∷ w ++ spanList noSpan) e
   words-kept (subtree s t n d) h =
-      let e = span-words s (and-left (partIn (length parts / 3) (length symbols) s) (partIn (length parts / 3) (length symbols) t) h) in
-      let f = span-words t (and-right (partIn (length parts / 3) (length symbols) s) (partIn (length parts / 3) (length symbols) t) h) in
+      let e = span-words s (and-left (partIn (length parts / partSize) (length symbols) s) (partIn (length parts / partSize) (length symbols) t) h) in
+      let f = span-words t (and-right (partIn (length parts / partSize) (length symbols) s) (partIn (length parts / partSize) (length symbols) t) h) in
       λ i. 3 ∷ n ∷ d ∷ e i ++ f i
 
 -- ---- the places in an admitted buffer: tree 1 begins at byte 33, and no later tree before it
@@ -122,7 +123,7 @@ pub record Kept (b c parts parts′ : List ℕ) : Type 0 where
   pub size : length c ≡ length b
   pub bytes : (i : ℕ) → 33 ≤ i → byteAt c i ≡ byteAt b i
   pub table : length parts′ ≡ length parts
-  pub entries : (i : ℕ) → i + 6 < length parts → getD parts′ i 0 ≡ getD parts i 0
+  pub entries : (i : ℕ) → i + 2 * partSize < length parts → getD parts′ i 0 ≡ getD parts i 0
 
 module _ (b c : List ℕ) (k : ℕ) (parts parts′ symbols : List ℕ) (kept : Kept b c parts parts′) where
   abbrev T : Tables
@@ -143,20 +144,20 @@ module _ (b c : List ℕ) (k : ℕ) (parts parts′ symbols : List ℕ) (kept : 
       let t = C .raw in
       let e = kept .table in
       let r8 = C .row8 in
-      let i : indexedBelow (length parts / 3) (length symbols) t ≡ true = eight (indexedBelow (length parts / 3) (length symbols) t) (simp z at r8) in
+      let i : indexedBelow (length parts / partSize) (length symbols) t ≡ true = eight (indexedBelow (length parts / partSize) (length symbols) t) (simp z at r8) in
       record {
         raw = t;
         stands = tree-from c b p (kept .size) (λ i l. kept .bytes i (omega arith)) ∙ C .stands;
         form = C .form;
         row2 = C .row2;
-        row8 = ap (λ m. rowEight (m / 3) (length symbols) n t) e ∙ r8;
+        row8 = ap (λ m. rowEight (m / partSize) (length symbols) n t) e ∙ r8;
         shown = C .shown ∙ sym (words-kept parts parts′ symbols (kept .entries) t i);
       }
 
   module _ (ad : Admitted wordShape R) where
     -- the new root: w are its words, of the same count
     module _ (w : List ℕ) (root : judge (T′ .words) (rules T′) 0 0 (treeAt c 0) ≡ got w 33 (stored wordShape R 0))
-        (size : length w ≡ 13) (sort : wordShape .isSub w ≡ true) (count : wordShape .count w ≡ wordShape .count (listing wordShape R .tree 0)) where
+        (size : length w ≡ treeSize) (sort : wordShape .isSub w ≡ true) (count : wordShape .count w ≡ wordShape .count (listing wordShape R .tree 0)) where
       reads-kept : (n : ℕ) → suc n < k → placeOf wordShape R′ (suc n) ≡ placeOf wordShape R (suc n) → reading wordShape R′ (suc n) ≡ reading wordShape R (suc n)
       reads-kept n h e =
           let p : ℕ = placeOf wordShape R (suc n) in
@@ -204,7 +205,7 @@ module _ (b c : List ℕ) (k : ℕ) (parts parts′ symbols : List ℕ) (kept : 
       admitted =
           let h = some b k T ad in
           record {
-            sized = ap (λ m. leb 1 k && leb k 1048576 && (eqb (m % 3) 0 && tablesSized (m / 3) (length symbols))) (kept .table) ∙ ad .sized;
+            sized = ap (λ m. leb 1 k && leb k 1048576 && (eqb (m % partSize) 0 && tablesSized (m / partSize) (length symbols))) (kept .table) ∙ ad .sized;
             readable = readable;
             whole = place-kept k (omega arith) ∙ ad .whole ∙ sym (kept .size);
             rooted = sub-kept 0 h ∙ ad .rooted;

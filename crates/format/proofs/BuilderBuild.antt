@@ -13,12 +13,13 @@ use Rattle.format.specs.Plain.{Listing, endOf, sub}
 use Rattle.format.specs.Nest.{nest}
 use Rattle.format.specs.Buffer.{wordShape}
 use Rattle.format.specs.Tables.{ownTables}
-use Rattle.format.specs.WordList.{wordOf, thirteen, wordFields, listCount, given, listSized, rowTwo, listRules, listRows}
+use Rattle.format.specs.WordList.{wordOf, treeList, wordFields, listCount, given, listSized, rowTwo, listRules, listRows}
 use Rattle.format.specs.Writer.{rowFive, listVerdict}
-use Rattle.format.specs.Root.{WordSpan, fiveWords}
 use Rattle.format.specs.Holding.{holdingAll}
 use Rattle.format.specs.Builder.{Builder, subtreeWords, wordIn, subAt, endAt, disagrees, new, Step, builderRun, builderFrom, isAmong, buildList, innerList, oneInside, skipList, ready, written, ifReady, build, buildSkipTopSubtree}
 use Rattle.format.specs.Frames.{Trees, flat, Frame, Model, whole, begun, laid, modelRun, newModel, modelList, modelFrom, isOne, modelSkip}
+use Rattle.format.specs.Width.{treeSize}
+use Rattle.format.specs.Part.{WordSpan, spanList}
 use Rattle.format.proofs.Each.{and-left, and-right, true-false, both, rule-passed, all-each}
 use Rattle.format.proofs.NestRun.{nest-as-run}
 use Rattle.format.proofs.Trees.{Sized, flat-length, tree-at}
@@ -35,14 +36,14 @@ module _ (t : List ℕ) (xs : Trees) (f : Fit t) (q : isSub t ≡ true) (c : cou
   sized : Sized (t ∷ xs)
   sized = (f .size, forest-sized g)
 
-  long : length l ≡ 13 * suc (length xs)
+  long : length l ≡ treeSize * suc (length xs)
   unfolding l
   long = flat-length (t ∷ xs) sized
 
   many : listCount l ≡ suc (length xs)
   many = let a = long in omega arith
 
-  stands : (n : ℕ) → n < suc (length xs) → thirteen (wordOf l n) ≡ getD (t ∷ xs) n []
+  stands : (n : ℕ) → n < suc (length xs) → treeList (wordOf l n) ≡ getD (t ∷ xs) n []
   unfolding l
   stands n k = tree-at l [] (t ∷ xs) (sym (append-nil l)) sized n k
 
@@ -59,7 +60,7 @@ module _ (t : List ℕ) (xs : Trees) (f : Fit t) (q : isSub t ≡ true) (c : cou
   size-ok =
       let a = long in
       let m = many in
-      let x = eq-eqb (length l % 13) 0 (omega arith) in
+      let x = eq-eqb (length l % treeSize) 0 (omega arith) in
       let y = le-leb 1 (listCount l) (omega arith) in
       let z = le-leb (listCount l) 1048576 (omega arith) in
       simp (x, y, z)
@@ -76,10 +77,10 @@ module _ (t : List ℕ) (xs : Trees) (f : Fit t) (q : isSub t ≡ true) (c : cou
       let r = forest-run G g 1 (λ i p. next i p) in
       nest-as-run wordShape G ∙ simp (u, e) (rw z at r)
     where
-      next : (i : ℕ) → i < length xs → thirteen (wordOf l (1 + i)) ≡ getD xs i []
+      next : (i : ℕ) → i < length xs → treeList (wordOf l (1 + i)) ≡ getD xs i []
       next i p =
           let e : 1 + i ≡ suc i = omega arith in
-          ap (λ n. thirteen (wordOf l n)) e ∙ stands (suc i) (omega arith)
+          ap (λ n. treeList (wordOf l n)) e ∙ stands (suc i) (omega arith)
 
   rules-pass : listRules l ≡ passed
   unfolding listRules
@@ -117,7 +118,7 @@ one-rows (t ∷ ts) g h e =
 -- ---- a builder with none open
 
 module _ (r : Frame) (b : Builder) (l : List ℕ) (H : Holds r [] b l) where
-  words : take (13 * b .count) l ≡ flat (begun r)
+  words : take (treeSize * b .count) l ≡ flat (begun r)
   unfolding laid
   words = front-words r [] b l H
 
@@ -131,14 +132,14 @@ module _ (r : Frame) (b : Builder) (l : List ℕ) (H : Holds r [] b l) where
   builds =
       let e = flat-length (begun r) (refl, forest-sized (H .well .1 .forest)) in
       let k : listCount (flat (begun r)) - 1 ≡ length (r .made) = omega arith in
-      let q : List ℕ = r .kind ∷ fiveWords (r .opening) ++ fiveWords (r .closing) ++ flat (r .made) in
+      let q : List ℕ = r .kind ∷ spanList (r .opening) ++ spanList (r .closing) ++ flat (r .made) in
       ap holdingAll words ∙ ap (λ n. 3 ∷ n ∷ q) k
 
   inner : innerList l b ≡ flat (r .made)
   unfolding innerList flat
-  inner = ap (drop 13) words
+  inner = ap (drop treeSize) words
 
-  at-one : (t : List ℕ) (ts : Trees) → r .made ≡ t ∷ ts → thirteen (wordOf l 1) ≡ t
+  at-one : (t : List ℕ) (ts : Trees) → r .made ≡ t ∷ ts → treeList (wordOf l 1) ≡ t
   unfolding laid
   at-one t ts e =
       let n = one-less in
@@ -217,7 +218,7 @@ module _ (kind : ℕ) (o c : WordSpan) (l : List ℕ) (ss : List Step) (ok : new
   held = holds-run ss (newModel kind o c) (new kind o c l .builder) (new kind o c l .words) (holds-new kind o c l ok)
 
   -- the run begins with the trees that the accepted steps have made so far, and as many subtrees are open
-  pub always-words : take (13 * builderFrom kind o c l ss .builder .count) (builderFrom kind o c l ss .words)
+  pub always-words : take (treeSize * builderFrom kind o c l ss .builder .count) (builderFrom kind o c l ss .words)
       ≡ flat (laid (modelFrom kind o c l ss .root) (modelFrom kind o c l ss .frames))
   always-words = front-words (M .root) (M .frames) B L held
 

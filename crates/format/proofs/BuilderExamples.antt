@@ -13,9 +13,10 @@ use Rattle.format.specs.Nest.{nestFrom, stillOpen}
 use Rattle.format.specs.Write.{suffixes, treeBytes, spanBytes, heavyBytes, rootBytes}
 use Rattle.format.specs.WordList.{rawFrom, listCount, listRules}
 use Rattle.format.specs.Writer.{find, raws, listVerdict}
-use Rattle.format.specs.Root.{WordSpan, rangeFits}
+use Rattle.format.specs.Root.{rangeFits}
 use Rattle.format.specs.Holding.{holdingAll}
 use Rattle.format.specs.Builder.{Builder, Point, subtreeWords, leafFits, openFit, disagrees, Stepped, noBuilder, new, room, pushVerdict, openVerdict, closeVerdict, openBefore, isAmong, pointVerdict, restorePoint, pointFits, Step, push, openSubtree, closeSubtree, restore, builderStep, builderRun, builderFrom, buildList, innerList, skipList, build}
+use Rattle.format.specs.Part.{WordSpan, noSpan}
 
 -- ---- what the limits answer
 
@@ -46,10 +47,10 @@ module _ (l : List ℕ) (b : Builder) (a : disagrees l b ≡ false) where
 -- ---- worked steps, over a run of four trees
 
 z : WordSpan
-z = record { file = 0; ast = 0; context = 0; start = 0; len = 0 }
+z = noSpan
 
 A : WordSpan
-A = record { file = 7; ast = 0; context = 0; start = 10; len = 1 }
+A = record { part = record { file = 7; ast = 0; context = 0 }; start = 10; len = 1 }
 
 -- `+` Alone
 plus : List ℕ
@@ -159,7 +160,7 @@ where-ten = (refl, refl, refl, refl, refl)
 -- a subtree is no leaf; spacing 3; a close span that is too long
 where-two : (from (push (subtreeWords 0 0 z z) ∷ []) .verdict ≡ refused 2 1)
     × (from (push (0 ∷ 43 ∷ 3 ∷ []) ∷ []) .verdict ≡ refused 2 1)
-    × (from (openSubtree 0 z ∷ closeSubtree (record { file = 0; ast = 0; context = 0; start = 4294967295; len = 1 }) ∷ []) .verdict ≡ refused 2 2)
+    × (from (openSubtree 0 z ∷ closeSubtree (record { part = noSpan .part; start = 4294967295; len = 1 }) ∷ []) .verdict ≡ refused 2 2)
 unfolding z four from builderFrom new builderRun builderStep disagrees openFit put rawFrom
 where-two = (refl, refl, refl)
 
@@ -204,7 +205,7 @@ no-point = (refl, refl)
 -- "10, 2, 4, 1 for a tree too many, 6" in this order, where two rows hold: kind 4 in a run of 12 words; spacing 3 in a full run; kind 4 with 255 open;
 -- none open and a span out of range
 abbrev far : WordSpan
-far = record { file = 0; ast = 0; context = 0; start = 4294967295; len = 1 }
+far = record { part = noSpan .part; start = 4294967295; len = 1 }
 
 first-rows : (new 4 z z (replicate 12 0) .verdict ≡ refused 2 0)
     × (pushVerdict (subtreeWords 0 3 z z) (record { count = 1; opened = [] }) (0 ∷ 43 ∷ 3 ∷ []) ≡ refused 2 1)

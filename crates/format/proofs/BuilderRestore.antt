@@ -11,9 +11,11 @@ use lib.Seq.{getD-take}
 use Rattle.format.specs.Verdict.{Verdict, passed, refused, _andThen_, rule}
 use Rattle.format.specs.Word.{put}
 use Rattle.format.specs.WordList.{wordOf, listCount}
-use Rattle.format.specs.Root.{WordSpan, rangeFits, fiveWords}
+use Rattle.format.specs.Root.{rangeFits}
 use Rattle.format.specs.Builder.{Builder, subtreeWords, leafWords, leafFits, subAt, endAt, openFit, disagrees, new, agreed, room, addTree, closeLast, butLast, openBefore, isAmong, pointVerdict, restorePoint, reachesPast, pointFits, restoreVerdict, restored, Step, push, openSubtree, closeSubtree, restore, stepVerdict, stepBuilder, stepWords, builderStep, builderRun, staysInside, builderFrom}
 use Rattle.format.specs.Frames.{Model, modelRun, keptIf, accepted, modelFrom}
+use Rattle.format.specs.Width.{closeAt, treeSize}
+use Rattle.format.specs.Part.{WordSpan, spanList}
 use Rattle.format.proofs.Each.{and₄, true-false, both, rule-passed, all-each}
 use Rattle.format.proofs.Put.{put-length}
 use Rattle.format.proofs.Trees.{take-put}
@@ -87,9 +89,9 @@ module _ (n : ℕ) (o l₀ : List ℕ) where
     opens : b .opened ≡ later ++ o
     behind : AtLeast n later
     more : n ≤ b .count
-    before : take (13 * n) l ≡ take (13 * n) l₀
+    before : take (treeSize * n) l ≡ take (treeSize * n) l₀
 
-  in-run : (l : List ℕ) (b : Builder) → Agrees l b → 13 * b .count ≤ length l
+  in-run : (l : List ℕ) (b : Builder) → Agrees l b → treeSize * b .count ≤ length l
   in-run l b A = let x = A .inRun in omega arith
 
   since-push : (d : ℕ) (b : Builder) (l t : List ℕ) → Agrees l b → Since d b l → Since d (record { count = b .count + 1; opened = b .opened }) (addTree l b t)
@@ -101,7 +103,7 @@ module _ (n : ℕ) (o l₀ : List ℕ) where
         opens = S .opens;
         behind = S .behind;
         more = omega arith;
-        before = take-put l t (13 * n) (13 * b .count) (omega arith) (in-run l b A) ∙ S .before;
+        before = take-put l t (treeSize * n) (treeSize * b .count) (omega arith) (in-run l b A) ∙ S .before;
       }
 
   since-open : (d : ℕ) (b : Builder) (l t : List ℕ) → Agrees l b → Since d b l
@@ -114,7 +116,7 @@ module _ (n : ℕ) (o l₀ : List ℕ) where
         opens = ap (λ z. b .count ∷ z) (S .opens);
         behind = (x, S .behind);
         more = omega arith;
-        before = take-put l t (13 * n) (13 * b .count) (omega arith) (in-run l b A) ∙ S .before;
+        before = take-put l t (treeSize * n) (treeSize * b .count) (omega arith) (in-run l b A) ∙ S .before;
       }
 
   since-close : (d : ℕ) (b : Builder) (l : List ℕ) (s : WordSpan) → Agrees l b → Since (suc d) b l
@@ -129,17 +131,17 @@ module _ (n : ℕ) (o l₀ : List ℕ) where
           let f : Below (b .count) (m ∷ (ms ++ o)) = rw e at (fit-below l (b .count) (b .opened) (A .fit)) in
           let f₁ = f .0 in
           let g₁ = g .0 in
-          let l₁ : List ℕ = put l (13 * m + 1) ((b .count - (m + 1)) ∷ []) in
-          let k = put-length l (13 * m + 1) ((b .count - (m + 1)) ∷ []) (omega arith) in
-          let x = take-put l ((b .count - (m + 1)) ∷ []) (13 * n) (13 * m + 1) (omega arith) (omega arith) in
-          let y = take-put l₁ (fiveWords s) (13 * n) (13 * m + 8) (omega arith) (omega arith) in
+          let l₁ : List ℕ = put l (treeSize * m + 1) ((b .count - (m + 1)) ∷ []) in
+          let k = put-length l (treeSize * m + 1) ((b .count - (m + 1)) ∷ []) (omega arith) in
+          let x = take-put l ((b .count - (m + 1)) ∷ []) (treeSize * n) (treeSize * m + 1) (omega arith) (omega arith) in
+          let y = take-put l₁ (spanList s) (treeSize * n) (treeSize * m + closeAt) (omega arith) (omega arith) in
           record {
             later = ms;
             many = omega arith;
             opens = ap butLast e;
             behind = g .1;
             more = S .more;
-            before = ap (λ z. take (13 * n) (closeLast l b s z)) e ∙ y ∙ x ∙ S .before;
+            before = ap (λ z. take (treeSize * n) (closeLast l b s z)) e ∙ y ∙ x ∙ S .before;
           }
 
   since-step : (s : Step) (ss : List Step) (d : ℕ) (b : Builder) (l : List ℕ) → Since d b l → staysInside d (s ∷ ss) ≡ true → stepVerdict s b l ≡ passed
@@ -188,9 +190,9 @@ module _ (n : ℕ) (o l₀ : List ℕ) where
       let e = le-ltb m n (g .0) in
       simp e (later-go ms (g .1) f)
 
-  word-same : (l : List ℕ) → take (13 * n) l ≡ take (13 * n) l₀ → (i j : ℕ) → i < n → j < 13 → wordOf l i j ≡ wordOf l₀ i j
+  word-same : (l : List ℕ) → take (treeSize * n) l ≡ take (treeSize * n) l₀ → (i j : ℕ) → i < n → j < treeSize → wordOf l i j ≡ wordOf l₀ i j
   word-same l e i j h k =
-      sym (getD-take (13 * n) l (13 * i + j) 0 (omega arith)) ∙ ap (λ z. getD z (13 * i + j) 0) e ∙ getD-take (13 * n) l₀ (13 * i + j) 0 (omega arith)
+      sym (getD-take (treeSize * n) l (treeSize * i + j) 0 (omega arith)) ∙ ap (λ z. getD z (treeSize * i + j) 0) e ∙ getD-take (treeSize * n) l₀ (treeSize * i + j) 0 (omega arith)
 
   abbrev Within : Type 0
   Within = (i : ℕ) → 1 ≤ i → i < n → subAt l₀ i ≡ true → isAmong i o ≡ false → endAt l₀ i ≤ n
@@ -256,7 +258,7 @@ pub record Restored (b₀ : Builder) (l₀ : List ℕ) (b : Builder) (l : List �
   pub builder : builderStep (restore (restorePoint l₀ b₀)) b l .builder ≡ b₀
   -- nothing is written, and the trees before the point are those of that moment
   pub words : builderStep (restore (restorePoint l₀ b₀)) b l .words ≡ l
-  pub before : take (13 * restorePoint l₀ b₀ .trees) l ≡ take (13 * restorePoint l₀ b₀ .trees) l₀
+  pub before : take (treeSize * restorePoint l₀ b₀ .trees) l ≡ take (treeSize * restorePoint l₀ b₀ .trees) l₀
 
 the-point : (l₀ : List ℕ) (b₀ : Builder) → disagrees l₀ b₀ ≡ false
     → (pointVerdict l₀ b₀ ≡ passed) × (restorePoint l₀ b₀ ≡ record { trees = b₀ .count; opened = length (b₀ .opened) })
@@ -281,7 +283,7 @@ restores b₀ l₀ ss a₀ W h v a =
       passes = ap (λ q. builderStep (restore q) b l .verdict) (p .1) ∙ y .0;
       builder = ap (λ q. builderStep (restore q) b l .builder) (p .1) ∙ y .1 ∙ x .back;
       words = ap (λ q. builderStep (restore q) b l .words) (p .1) ∙ y .2;
-      before = subst (λ q. take (13 * q .trees) l ≡ take (13 * q .trees) l₀) (sym (p .1)) (z .1 .before);
+      before = subst (λ q. take (treeSize * q .trees) l ≡ take (treeSize * q .trees) l₀) (sym (p .1)) (z .1 .before);
     }
 
 -- RESTORE, at any moment of any builder that `new` began

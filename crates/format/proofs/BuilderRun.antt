@@ -11,10 +11,12 @@ use lib.Seq.{take-at, take-append-le, length-take-le}
 use Rattle.format.specs.Test.{if_then_else_}
 use Rattle.format.specs.Verdict.{Verdict, passed, refused, _andThen_, contents, rule, eachFrom}
 use Rattle.format.specs.Word.{put}
-use Rattle.format.specs.WordList.{wordOf, thirteen, listCount}
-use Rattle.format.specs.Root.{WordSpan, rangeFits, fiveWords}
+use Rattle.format.specs.WordList.{wordOf, treeList, listCount}
+use Rattle.format.specs.Root.{rangeFits}
 use Rattle.format.specs.Builder.{Builder, Point, subtreeWords, leafWords, leafFits, subAt, endAt, openFit, disagrees, noBuilder, newBuilder, new, agreed, room, pushVerdict, openVerdict, closeVerdict, addTree, closeTree, closeLast, butLast, openBefore, isAmong, reachesPast, pointFits, restoreVerdict, restored, Step, push, openSubtree, closeSubtree, restore, stepVerdict, stepBuilder, stepWords, builderStep, builderRun}
 use Rattle.format.specs.Frames.{Trees, flat, Frame, Model, whole, begun, withClosing, laid, added, closeFrame, cut, modelStep, modelRun, newModel, accepted}
+use Rattle.format.specs.Width.{closeAt, treeSize}
+use Rattle.format.specs.Part.{WordSpan, spanList}
 use Rattle.format.proofs.Each.{and-left, and-right, and₃, both, rule-passed, each-all}
 use Rattle.format.proofs.Trees.{put-seam, put-behind, Sized, flat-append, flat-length, flat-take, tree-at}
 use Rattle.format.proofs.Forest.{isSub, countIn, Forest, none}
@@ -45,7 +47,7 @@ pub record Holds (r : Frame) (fs : List Frame) (b : Builder) (l : List ℕ) : Ty
   pub small : b .count ≤ 1048576
 
 -- the run's length, by the trees that are there
-run-length : (l rest : List ℕ) (ts : Trees) → l ≡ flat ts ++ rest → Sized ts → length l ≡ 13 * length ts + length rest
+run-length : (l rest : List ℕ) (ts : Trees) → l ≡ flat ts ++ rest → Sized ts → length l ≡ treeSize * length ts + length rest
 run-length l rest ts e s =
     let a = ap length e in
     let b = length-append (flat ts) rest in
@@ -75,17 +77,17 @@ module _ (r : Frame) (fs : List Frame) (b : Builder) (l : List ℕ) (H : Holds r
   sized : Sized (laid r fs)
   sized = laid-sized r fs (H .left) (H .well)
 
-  long : length l ≡ 13 * b .count + length (H .rest)
+  long : length l ≡ treeSize * b .count + length (H .rest)
   long = let a = run-length l (H .rest) (laid r fs) (H .words) sized in let c = H .counts in omega arith
 
-  pub tree-is : (n : ℕ) → n < b .count → thirteen (wordOf l n) ≡ getD (laid r fs) n []
+  pub tree-is : (n : ℕ) → n < b .count → treeList (wordOf l n) ≡ getD (laid r fs) n []
   tree-is n h = let c = H .counts in tree-at l (H .rest) (laid r fs) (H .words) sized n (omega arith)
 
-  pub front-words : take (13 * b .count) l ≡ flat (laid r fs)
+  pub front-words : take (treeSize * b .count) l ≡ flat (laid r fs)
   front-words =
       let c = H .counts in
       let k = flat-length (laid r fs) sized in
-      ap (take (13 * b .count)) (H .words) ∙ take-at (flat (laid r fs)) (H .rest) (13 * b .count) (omega arith)
+      ap (take (treeSize * b .count)) (H .words) ∙ take-at (flat (laid r fs)) (H .rest) (treeSize * b .count) (omega arith)
 
   -- "state and lent list" do not disagree
   pub agrees : disagrees l b ≡ false
@@ -120,14 +122,14 @@ abbrev HoldsM : Model → Builder → List ℕ → Type 0
 HoldsM m b l = Holds (m .root) (m .frames) b l
 
 -- one more tree behind the others
-one-more : (l rest : List ℕ) (ts : Trees) (t : List ℕ) (n : ℕ) → l ≡ flat ts ++ rest → Sized ts → n ≡ length ts → length t ≡ 13 → 13 ≤ length rest
-    → put l (13 * n) t ≡ flat (ts ++ (t ∷ [])) ++ drop 13 rest
+one-more : (l rest : List ℕ) (ts : Trees) (t : List ℕ) (n : ℕ) → l ≡ flat ts ++ rest → Sized ts → n ≡ length ts → length t ≡ treeSize → treeSize ≤ length rest
+    → put l (treeSize * n) t ≡ flat (ts ++ (t ∷ [])) ++ drop treeSize rest
 unfolding flat
 one-more l rest ts t n e s c z h =
     let f = flat-length ts s in
-    let a = put-behind (flat ts) rest t (13 * n) (omega arith) (omega arith) in
+    let a = put-behind (flat ts) rest t (treeSize * n) (omega arith) (omega arith) in
     let x : flat (ts ++ (t ∷ [])) ≡ flat ts ++ t = flat-append ts (t ∷ []) ∙ ap (λ y. flat ts ++ y) (append-nil t) in
-    rw (e, a, z, x) (sym (append-assoc (flat ts) t (drop 13 rest)))
+    rw (e, a, z, x) (sym (append-assoc (flat ts) t (drop treeSize rest)))
 
 room-is : (l : List ℕ) (b : Builder) → room l b ≡ passed → (b .count < 1048576) × (b .count < listCount l)
 room-is l b e =
@@ -137,7 +139,7 @@ room-is l b e =
     )
 
 -- a tree added to the last frame
-holds-added : (r : Frame) (fs : List Frame) (b : Builder) (l t : List ℕ) (H : Holds r fs b l) → length t ≡ 13 → Forest (H .left) (t ∷ []) → room l b ≡ passed
+holds-added : (r : Frame) (fs : List Frame) (b : Builder) (l t : List ℕ) (H : Holds r fs b l) → length t ≡ treeSize → Forest (H .left) (t ∷ []) → room l b ≡ passed
     → HoldsM (added (t ∷ []) r fs) (record { count = b .count + 1; opened = b .opened }) (addTree l b t)
 holds-added r fs b l t H z g e =
     let ro = room-is l b e in
@@ -152,7 +154,7 @@ holds-added r fs b l t H z g e =
       well = added-well (t ∷ []) r fs (H .left) (H .well) g;
       counts = omega arith;
       opens = H .opens ∙ sym (added-numbers (t ∷ []) r fs);
-      rest = drop 13 (H .rest);
+      rest = drop treeSize (H .rest);
       words = rw a (one-more l (H .rest) (laid r fs) t (b .count) (H .words) (sized r fs b l H) c z (omega arith));
       small = omega arith;
     }
@@ -192,26 +194,26 @@ holds-open r fs b l kind s H e =
       well = (fit, subst (Well r fs) q (H .well));
       counts = omega arith;
       opens = λ i. H .counts i ∷ H .opens i;
-      rest = drop 13 (H .rest);
+      rest = drop treeSize (H .rest);
       words = one-more l (H .rest) (laid r fs) t (b .count) (H .words) (sized r fs b l H) c refl (omega arith);
       small = omega arith;
     }
 
 -- descendant count and close span of the subtree behind a
-close-words : (a q : List ℕ) (m n k : ℕ) (o c s : WordSpan) → length a ≡ 13 * m
-    → put (put (a ++ (subtreeWords 0 k o c ++ q)) (13 * m + 1) (n ∷ [])) (13 * m + 8) (fiveWords s) ≡ a ++ (subtreeWords n k o s ++ q)
+close-words : (a q : List ℕ) (m n k : ℕ) (o c s : WordSpan) → length a ≡ treeSize * m
+    → put (put (a ++ (subtreeWords 0 k o c ++ q)) (treeSize * m + 1) (n ∷ [])) (treeSize * m + closeAt) (spanList s) ≡ a ++ (subtreeWords n k o s ++ q)
 close-words a q m n k o c s e =
-    let t : List ℕ = k ∷ fiveWords o ++ (fiveWords c ++ q) in
-    let h : List ℕ = 3 ∷ n ∷ k ∷ fiveWords o in
-    let x₁ : put (a ++ (3 ∷ 0 ∷ t)) (13 * m + 1) (n ∷ []) ≡ a ++ (3 ∷ n ∷ t) =
-    ap (λ z. put z (13 * m + 1) (n ∷ [])) (sym (append-assoc a (3 ∷ []) (0 ∷ t)))
-    ∙ put-seam (a ++ (3 ∷ [])) (0 ∷ []) t (n ∷ []) (13 * m + 1) (simp length-append (omega arith)) refl
+    let t : List ℕ = k ∷ spanList o ++ (spanList c ++ q) in
+    let h : List ℕ = 3 ∷ n ∷ k ∷ spanList o in
+    let x₁ : put (a ++ (3 ∷ 0 ∷ t)) (treeSize * m + 1) (n ∷ []) ≡ a ++ (3 ∷ n ∷ t) =
+    ap (λ z. put z (treeSize * m + 1) (n ∷ [])) (sym (append-assoc a (3 ∷ []) (0 ∷ t)))
+    ∙ put-seam (a ++ (3 ∷ [])) (0 ∷ []) t (n ∷ []) (treeSize * m + 1) (simp length-append (omega arith)) refl
     ∙ append-assoc a (3 ∷ []) (n ∷ t) in
-    let x₂ : put (a ++ (h ++ (fiveWords c ++ q))) (13 * m + 8) (fiveWords s) ≡ a ++ (h ++ (fiveWords s ++ q)) =
-    ap (λ z. put z (13 * m + 8) (fiveWords s)) (sym (append-assoc a h (fiveWords c ++ q)))
-    ∙ put-seam (a ++ h) (fiveWords c) q (fiveWords s) (13 * m + 8) (simp length-append (omega arith)) refl
-    ∙ append-assoc a h (fiveWords s ++ q) in
-    ap (λ z. put z (13 * m + 8) (fiveWords s)) x₁ ∙ x₂
+    let x₂ : put (a ++ (h ++ (spanList c ++ q))) (treeSize * m + closeAt) (spanList s) ≡ a ++ (h ++ (spanList s ++ q)) =
+    ap (λ z. put z (treeSize * m + closeAt) (spanList s)) (sym (append-assoc a h (spanList c ++ q)))
+    ∙ put-seam (a ++ h) (spanList c) q (spanList s) (treeSize * m + closeAt) (simp length-append (omega arith)) refl
+    ∙ append-assoc a h (spanList s ++ q) in
+    ap (λ z. put z (treeSize * m + closeAt) (spanList s)) x₁ ∙ x₂
 
 close-last : (r f : Frame) (fs : List Frame) (b : Builder) (l : List ℕ) (s : WordSpan) (H : Holds r (f ∷ fs) b l)
     → closeTree l b s (length (laid r fs)) ≡ flat (laid r fs ++ whole (withClosing f s)) ++ H .rest
@@ -227,8 +229,8 @@ close-last r f fs b l s H =
     let e : l ≡ a ++ (subtreeWords 0 (f .kind) (f .opening) (f .closing) ++ q) = words-below r f fs l (H .rest) (H .words) in
     let x = close-words a q m (length (f .made)) (f .kind) (f .opening) (f .closing) s (flat-length (laid r fs) d) in
     let y = ap (λ z. z ++ H .rest) (flat-append (laid r fs) (whole (withClosing f s))) ∙ append-assoc a (flat (whole (withClosing f s))) (H .rest) in
-    ap (λ z. put (put z (13 * m + 1) ((b .count - (m + 1)) ∷ [])) (13 * m + 8) (fiveWords s)) e
-    ∙ ap (λ z. put (put (a ++ (subtreeWords 0 (f .kind) (f .opening) (f .closing) ++ q)) (13 * m + 1) (z ∷ [])) (13 * m + 8) (fiveWords s)) k
+    ap (λ z. put (put z (treeSize * m + 1) ((b .count - (m + 1)) ∷ [])) (treeSize * m + closeAt) (spanList s)) e
+    ∙ ap (λ z. put (put (a ++ (subtreeWords 0 (f .kind) (f .opening) (f .closing) ++ q)) (treeSize * m + 1) (z ∷ [])) (treeSize * m + closeAt) (spanList s)) k
     ∙ x ∙ sym y
 
 holds-close : (r : Frame) (fs : List Frame) (b : Builder) (l : List ℕ) (s : WordSpan) → Holds r fs b l → closeVerdict l b s ≡ passed
@@ -283,15 +285,15 @@ holds-cut r fs b l n H k h c =
     let z = sized r fs b l H in
     let f = flat-length ts z in
     let x = cut-is n r fs (H .left) (H .well) k (omega arith) c in
-    let t : take (13 * n) l ≡ flat (take n ts) =
-    ap (take (13 * n)) (H .words) ∙ take-append-le (13 * n) (flat ts) (H .rest) (omega arith) ∙ flat-take n ts z (omega arith) in
+    let t : take (treeSize * n) l ≡ flat (take n ts) =
+    ap (take (treeSize * n)) (H .words) ∙ take-append-le (treeSize * n) (flat ts) (H .rest) (omega arith) ∙ flat-take n ts z (omega arith) in
     record {
       left = x .left;
       well = x .well;
       counts = sym (ap length (x .trees) ∙ length-take-le n ts (omega arith));
       opens = ap (openBefore n) (H .opens) ∙ sym (x .opens);
-      rest = drop (13 * n) l;
-      words = sym (take-append-drop (13 * n) l) ∙ ap (λ y. y ++ drop (13 * n) l) (t ∙ ap flat (sym (x .trees)));
+      rest = drop (treeSize * n) l;
+      words = sym (take-append-drop (treeSize * n) l) ∙ ap (λ y. y ++ drop (treeSize * n) l) (t ∙ ap flat (sym (x .trees)));
       small = omega arith;
     }
 
@@ -353,7 +355,7 @@ holds-run (s ∷ ss) m b l H = go (stepVerdict s b l) refl
         let x = a .0 in
         rw x (rec m (rw (a .1, a .2) H))
 
-start : (kind : ℕ) (o c : WordSpan) (l : List ℕ) → leb kind 3 ≡ true → rangeFits o ≡ true → rangeFits c ≡ true → 13 ≤ length l
+start : (kind : ℕ) (o c : WordSpan) (l : List ℕ) → leb kind 3 ≡ true → rangeFits o ≡ true → rangeFits c ≡ true → treeSize ≤ length l
     → HoldsM (newModel kind o c) newBuilder (put l 0 (subtreeWords 0 kind o c))
 unfolding laid flat
 start kind o c l x y z h =
@@ -362,7 +364,7 @@ start kind o c l x y z h =
       well = (refl, record { kind = x; opening = y; closing = z; forest = none });
       counts = refl;
       opens = refl;
-      rest = drop 13 l;
+      rest = drop treeSize l;
       words = put-behind [] l (subtreeWords 0 kind o c) 0 refl h;
       small = omega arith;
     }

@@ -11,34 +11,35 @@ use Rattle.format.specs.Test.{if_then_else_}
 use Rattle.format.specs.Verdict.{Verdict, refused}
 use Rattle.format.specs.Check.{check}
 use Rattle.format.specs.Buffer.{rawShape, sizeReader}
-use Rattle.format.specs.Bundle.{Bundle, BundleRead, bundle, badBundle, marked, isPartRecord, isSymbolRecord, isLastRecord, partRecord, symbolRecord, behind, lastRecord, records, bundleAt, checkOf, bundleCheck}
+use Rattle.format.specs.Bundle.{partBytes, Bundle, BundleRead, bundle, badBundle, marked, isPartRecord, isSymbolRecord, isLastRecord, partRecord, symbolRecord, behind, lastRecord, records, bundleAt, checkOf, bundleCheck}
+use Rattle.format.specs.Width.{partSize}
 use Rattle.format.proofs.Each.{and-right}
 use Rattle.format.proofs.RawReader.{own-check}
 
 abbrev Whole : BundleRead → Type 0
-Whole (bundle B) = length (B .parts) % 3 ≡ 0
+Whole (bundle B) = length (B .parts) % partSize ≡ 0
 Whole badBundle = Unit {0}
 
 module _ (b : List ℕ) where
-  last-whole : (parts symbols : List ℕ) (p : ℕ) → length parts % 3 ≡ 0 → Whole (lastRecord b parts symbols p)
+  last-whole : (parts symbols : List ℕ) (p : ℕ) → length parts % partSize ≡ 0 → Whole (lastRecord b parts symbols p)
   last-whole parts symbols p h = go _ refl
     where
       go : (x : Bool) → isLastRecord b p ≡ x → Whole (lastRecord b parts symbols p)
       go true e = simp e h
       go false e = simp e tt
 
-  three : (p : ℕ) → length (partRecord b p) % 3 ≡ 0
-  three p = go _ refl
+  whole-record : (p : ℕ) → length (partRecord b p) % partSize ≡ 0
+  whole-record p = go _ refl
     where
-      go : (x : Bool) → isPartRecord b p ≡ x → length (partRecord b p) % 3 ≡ 0
+      go : (x : Bool) → isPartRecord b p ≡ x → length (partRecord b p) % partSize ≡ 0
       go true e = simp e
       go false e = simp e
 
-  whole : (f : ℕ) (parts symbols : List ℕ) (p : ℕ) → length parts % 3 ≡ 0 → Whole (records b f parts symbols p)
+  whole : (f : ℕ) (parts symbols : List ℕ) (p : ℕ) → length parts % partSize ≡ 0 → Whole (records b f parts symbols p)
   unfolding records
   whole zero parts symbols p h = tt
   whole (suc f) parts symbols p h =
-      go _ refl (whole f (parts ++ partRecord b p) (symbols ++ symbolRecord b p) (behind b p) (let t = three p in let l = length-append parts (partRecord b p) in omega arith))
+      go _ refl (whole f (parts ++ partRecord b p) (symbols ++ symbolRecord b p) (behind b p) (let t = whole-record p in let l = length-append parts (partRecord b p) in omega arith))
     where
       go : (x : Bool) → (isPartRecord b p || isSymbolRecord b p) ≡ x → Whole (records b f (parts ++ partRecord b p) (symbols ++ symbolRecord b p) (behind b p))
           → Whole (records b (suc f) parts symbols p)
@@ -52,7 +53,7 @@ module _ (b : List ℕ) where
     where
       go : (x : Bool) → isPartRecord b p ≡ x → (p < length b) × (p < behind b p)
       go true f =
-          let l = leb-true (p + 14) (length b) (and-right (marked b 0x53 0x50 p) (leb (p + 14) (length b)) f) in
+          let l = leb-true (p + partBytes) (length b) (and-right (marked b 0x53 0x50 p) (leb (p + partBytes) (length b)) f) in
           (omega arith, simp f (omega arith))
       go false f =
           let g : isSymbolRecord b p ≡ true = simp f at e in
@@ -82,7 +83,7 @@ module _ (b : List ℕ) where
 
 -- by sizes alone
 abbrev pub sizesOf : BundleRead → Verdict
-sizesOf (bundle B) = check rawShape (sizeReader (B .bytes) (B .trees) (length (B .parts) / 3) (length (B .symbols)))
+sizesOf (bundle B) = check rawShape (sizeReader (B .bytes) (B .trees) (length (B .parts) / partSize) (length (B .symbols)))
 sizesOf badBundle = refused 1 0
 
 by-sizes : (r : BundleRead) → Whole r → checkOf r ≡ sizesOf r

@@ -10,7 +10,10 @@ use lib.ListN.{length, getD}
 use Rattle.format.specs.Tables.{partCount, indexedBelow}
 use Rattle.format.specs.WordList.{wordOf, rawFrom}
 use Rattle.format.specs.Writer.{find, isPart, partIndex, symbolIndex, present}
-use Rattle.format.proofs.Each.{and₃, true-false}
+use Rattle.format.specs.Width.{openAt, closeAt}
+use Rattle.format.specs.Part.{Part, partFrom, partAt}
+use Rattle.format.proofs.Each.{true-false}
+use Rattle.format.proofs.PartLaw.{same-part, part-same}
 
 -- ---- the first that passes a test
 
@@ -81,27 +84,11 @@ none-find t j i a = go (ltb (find t j i) (i + j)) refl
 
 -- ---- parts and symbols
 
--- the part with this index has these words
-pub record PartIs (parts : List ℕ) (i f a c : ℕ) : Type 0 where
-  pub file : getD parts (3 * i) 0 ≡ f
-  pub ast : getD parts (3 * i + 1) 0 ≡ a
-  pub ctx : getD parts (3 * i + 2) 0 ≡ c
+pub part-is : (parts symbols : List ℕ) (p : Part) (i : ℕ) → isPart parts symbols p i ≡ true → partAt parts i ≡ p
+part-is parts symbols p i = same-part (partAt parts i) p
 
-pub part-is : (parts symbols : List ℕ) (f a c i : ℕ) → isPart parts symbols f a c i ≡ true → PartIs parts i f a c
-part-is parts symbols f a c i e =
-    let x = and₃ (eqb (getD parts (3 * i) 0) f) (eqb (getD parts (3 * i + 1) 0) a) (eqb (getD parts (3 * i + 2) 0) c) e in
-    record {
-      file = eqb-true (getD parts (3 * i) 0) f (x .0);
-      ast = eqb-true (getD parts (3 * i + 1) 0) a (x .1);
-      ctx = eqb-true (getD parts (3 * i + 2) 0) c (x .2);
-    }
-
-is-part : (parts symbols : List ℕ) (f a c i : ℕ) → PartIs parts i f a c → isPart parts symbols f a c i ≡ true
-is-part parts symbols f a c i p =
-    let x = eq-eqb (getD parts (3 * i) 0) f (p .file) in
-    let y = eq-eqb (getD parts (3 * i + 1) 0) a (p .ast) in
-    let z = eq-eqb (getD parts (3 * i + 2) 0) c (p .ctx) in
-    simp (x, y, z)
+is-part : (parts symbols : List ℕ) (p : Part) (i : ℕ) → partAt parts i ≡ p → isPart parts symbols p i ≡ true
+is-part parts symbols p i = part-same (partAt parts i) p
 
 -- which of a tree's indices is outside: a subtree alone has a close part, an ident or a literal a symbol
 module _ (P Y o c y : ℕ) (w : ℕ → ℕ) where
@@ -168,35 +155,35 @@ module _ (parts symbols : List ℕ) where
   P = partCount parts symbols
 
   -- stands at no place before the last two; at no place
-  abbrev pub NoPart : ℕ → ℕ → ℕ → Type 0
-  NoPart f a c = (i : ℕ) → i + 2 < P → PartIs parts i f a c → ⊥
+  abbrev pub NoPart : Part → Type 0
+  NoPart p = (i : ℕ) → i + 2 < P → partAt parts i ≡ p → ⊥
 
   abbrev pub NoSymbol : ℕ → Type 0
   NoSymbol y = (i : ℕ) → i < length symbols → getD symbols i 0 ≡ y → ⊥
 
   -- a part or symbol that is found stands there
-  pub part-found : (f a c : ℕ) → partIndex parts symbols f a c + 2 < P → PartIs parts (partIndex parts symbols f a c) f a c
-  part-found f a c h = part-is parts symbols f a c (partIndex parts symbols f a c) (find-at (isPart parts symbols f a c) (P - 2) 0 (omega arith))
+  pub part-found : (p : Part) → partIndex parts symbols p + 2 < P → partAt parts (partIndex parts symbols p) ≡ p
+  part-found p h = part-is parts symbols p (partIndex parts symbols p) (find-at (isPart parts symbols p) (P - 2) 0 (omega arith))
 
   pub symbol-found : (y : ℕ) → symbolIndex parts symbols y < length symbols → getD symbols (symbolIndex parts symbols y) 0 ≡ y
   symbol-found y h = eqb-true (getD symbols (symbolIndex parts symbols y) 0) y (find-at (λ i. eqb (getD symbols i 0) y) (length symbols) 0 (omega arith))
 
-  pub part-first : (f a c i : ℕ) → i + 2 < P → PartIs parts i f a c → partIndex parts symbols f a c ≤ i
-  part-first f a c i h p = find-first (isPart parts symbols f a c) (P - 2) 0 i (is-part parts symbols f a c i p) (omega arith) (omega arith)
+  pub part-first : (p : Part) (i : ℕ) → i + 2 < P → partAt parts i ≡ p → partIndex parts symbols p ≤ i
+  part-first p i h e = find-first (isPart parts symbols p) (P - 2) 0 i (is-part parts symbols p i e) (omega arith) (omega arith)
 
   pub symbol-first : (y i : ℕ) → i < length symbols → getD symbols i 0 ≡ y → symbolIndex parts symbols y ≤ i
   symbol-first y i h e = find-first (λ i. eqb (getD symbols i 0) y) (length symbols) 0 i (eq-eqb (getD symbols i 0) y e) (omega arith) (omega arith)
 
   -- an index past them is given exactly where there is none
-  pub part-none : (f a c : ℕ) → P ≤ partIndex parts symbols f a c + 2 → NoPart f a c
-  part-none f a c h i l p = let k = part-first f a c i l p in omega arith
+  pub part-none : (p : Part) → P ≤ partIndex parts symbols p + 2 → NoPart p
+  part-none p h i l e = let k = part-first p i l e in omega arith
 
-  pub none-part : (f a c : ℕ) → NoPart f a c → P ≤ partIndex parts symbols f a c + 2
-  none-part f a c none = go (ltb (partIndex parts symbols f a c + 2) P) refl
+  pub none-part : (p : Part) → NoPart p → P ≤ partIndex parts symbols p + 2
+  none-part p none = go (ltb (partIndex parts symbols p + 2) P) refl
     where
-      go : (x : Bool) → ltb (partIndex parts symbols f a c + 2) P ≡ x → P ≤ partIndex parts symbols f a c + 2
-      go true e = let l = ltb-true (partIndex parts symbols f a c + 2) P e in absurd (none (partIndex parts symbols f a c) l (part-found f a c l))
-      go false e = ltb-false (partIndex parts symbols f a c + 2) P e
+      go : (x : Bool) → ltb (partIndex parts symbols p + 2) P ≡ x → P ≤ partIndex parts symbols p + 2
+      go true e = let l = ltb-true (partIndex parts symbols p + 2) P e in absurd (none (partIndex parts symbols p) l (part-found p l))
+      go false e = ltb-false (partIndex parts symbols p + 2) P e
 
   pub symbol-none : (y : ℕ) → length symbols ≤ symbolIndex parts symbols y → NoSymbol y
   symbol-none y h i l e = let k = symbol-first y i l e in omega arith
@@ -216,25 +203,25 @@ module _ (parts symbols : List ℕ) where
 
     -- tree n lacks its part or symbol; "or the last two parts are not the root's"
     pub data Absent : ℕ → Type 0 where
-      root : (PartIs parts (P - 2) (w 0 3) (w 0 4) (w 0 5) → PartIs parts (P - 1) (w 0 8) (w 0 9) (w 0 10) → ⊥) → Absent 0
-      openPart : (n : ℕ) → 1 ≤ n → NoPart (w n 3) (w n 4) (w n 5) → Absent n
+      root : (partAt parts (P - 2) ≡ partFrom (w 0) openAt → partAt parts (P - 1) ≡ partFrom (w 0) closeAt → ⊥) → Absent 0
+      openPart : (n : ℕ) → 1 ≤ n → NoPart (partFrom (w n) openAt) → Absent n
       -- of a subtree
-      closePart : (n : ℕ) → 1 ≤ n → 3 ≤ w n 0 → NoPart (w n 8) (w n 9) (w n 10) → Absent n
+      closePart : (n : ℕ) → 1 ≤ n → 3 ≤ w n 0 → NoPart (partFrom (w n) closeAt) → Absent n
       -- of an ident or a literal
       ownSymbol : (n : ℕ) → 1 ≤ n → 1 ≤ w n 0 → w n 0 ≤ 2 → NoSymbol (w n 1) → Absent n
 
     abbrev o : ℕ → ℕ
-    o n = partIndex parts symbols (w n 3) (w n 4) (w n 5)
+    o n = partIndex parts symbols (partFrom (w n) openAt)
 
     abbrev c : ℕ → ℕ
-    c n = partIndex parts symbols (w n 8) (w n 9) (w n 10)
+    c n = partIndex parts symbols (partFrom (w n) closeAt)
 
     abbrev y : ℕ → ℕ
     y n = symbolIndex parts symbols (w n 1)
 
     below-absent : (n : ℕ) → 1 ≤ n → Outside P (length symbols) (o n) (c n) (y n) (w n) → Absent n
-    below-absent n h (opens a) = openPart n h (part-none (w n 3) (w n 4) (w n 5) a)
-    below-absent n h (closes s a) = closePart n h s (part-none (w n 8) (w n 9) (w n 10) a)
+    below-absent n h (opens a) = openPart n h (part-none (partFrom (w n) openAt) a)
+    below-absent n h (closes s a) = closePart n h s (part-none (partFrom (w n) closeAt) a)
     below-absent n h (symbol s t a) = ownSymbol n h s t (symbol-none (w n 1) a)
 
     pub absent-of : (n : ℕ) → present parts symbols l n ≡ false → Absent n
@@ -246,8 +233,8 @@ module _ (parts symbols : List ℕ) where
             let h₀ : present parts symbols l 0 ≡ false = rw q at h in
             subst Absent (sym q)
             (root (λ a b.
-            let x = is-part parts symbols (w 0 3) (w 0 4) (w 0 5) (P - 2) a in
-            let y = is-part parts symbols (w 0 8) (w 0 9) (w 0 10) (P - 1) b in
+            let x = is-part parts symbols (partFrom (w 0) openAt) (P - 2) a in
+            let y = is-part parts symbols (partFrom (w 0) closeAt) (P - 1) b in
             let h₁ : true ≡ false = simp (x, y) at h₀ in
             true-false true refl h₁))
         go false z =
@@ -263,11 +250,11 @@ module _ (parts symbols : List ℕ) where
     pub absent-not : (n : ℕ) → Absent n → present parts symbols l n ≡ false
     absent-not n (root f) = go _ _ refl refl
       where
-        go : (a b : Bool) → isPart parts symbols (w 0 3) (w 0 4) (w 0 5) (P - 2) ≡ a → isPart parts symbols (w 0 8) (w 0 9) (w 0 10) (P - 1) ≡ b
+        go : (a b : Bool) → isPart parts symbols (partFrom (w 0) openAt) (P - 2) ≡ a → isPart parts symbols (partFrom (w 0) closeAt) (P - 1) ≡ b
             → present parts symbols l 0 ≡ false
-        go true true x y = absurd (f (part-is parts symbols (w 0 3) (w 0 4) (w 0 5) (P - 2) x) (part-is parts symbols (w 0 8) (w 0 9) (w 0 10) (P - 1) y))
+        go true true x y = absurd (f (part-is parts symbols (partFrom (w 0) openAt) (P - 2) x) (part-is parts symbols (partFrom (w 0) closeAt) (P - 1) y))
         go true false x y = simp (x, y)
         go false b x y = simp x
-    absent-not n (openPart m h a) = not-present n h (opens (none-part (w n 3) (w n 4) (w n 5) a))
-    absent-not n (closePart m h s a) = not-present n h (closes s (none-part (w n 8) (w n 9) (w n 10) a))
+    absent-not n (openPart m h a) = not-present n h (opens (none-part (partFrom (w n) openAt) a))
+    absent-not n (closePart m h s a) = not-present n h (closes s (none-part (partFrom (w n) closeAt) a))
     absent-not n (ownSymbol m h s t a) = not-present n h (symbol s t (none-symbol (w n 1) a))

@@ -16,13 +16,14 @@ use Rattle.format.specs.Buffer.{wordShape}
 use Rattle.format.specs.WordList.{wordFields}
 use Rattle.format.specs.Builder.{wordIn}
 use Rattle.format.specs.Frames.{Trees}
+use Rattle.format.specs.Width.{treeSize}
 use Rattle.format.proofs.Each.{true-false}
 use Rattle.format.proofs.NestRun.{run-done, run-leaf, run-sub}
 use Rattle.format.proofs.Trees.{Sized, sized-append}
 
 -- one tree, by its words
 pub record Fit (t : List ℕ) : Type 0 where
-  pub size : length t ≡ 13
+  pub size : length t ≡ treeSize
   pub fields : wordFields (wordIn t) ≡ true
 
 abbrev pub isSub : List ℕ → Bool

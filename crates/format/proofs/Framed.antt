@@ -8,10 +8,11 @@ use borrow.Author.Tests.{not-true, le-leb, lt-leb, lt-ltb, le-ltb, eq-eqb, ne-eq
 use lib.Dec.{eqb, ltb, leb}
 use lib.ListN.{length, take, getD, length-append, List·getD-append}
 use lib.Seq.{getD-append-add, getD-append-seam, take-append-add, take-append-le, take-all}
-use Rattle.format.specs.WordList.{thirteen, rawFrom, wordFields}
-use Rattle.format.specs.Root.{WordSpan, rangeFits}
+use Rattle.format.specs.WordList.{treeList, rawFrom, wordFields}
+use Rattle.format.specs.Root.{rangeFits}
 use Rattle.format.specs.Builder.{subtreeWords, wordIn, leafWords, leafFits, openBefore, isAmong}
 use Rattle.format.specs.Frames.{Trees, Frame, Model, whole, begun, withMade, withClosing, laid, added, cut}
+use Rattle.format.specs.Part.{WordSpan}
 use Rattle.format.proofs.Each.{and-left, and-right, true-false}
 use Rattle.format.proofs.Trees.{Sized, sized-append}
 use Rattle.format.proofs.Forest.{Fit, isSub, countIn, Forest, none, leaf, tree, Ends, forest-sized, forest-append, forest-ends, forest-cut}
@@ -33,8 +34,8 @@ pub subtree-fit : (n k : ℕ) (o c : WordSpan) → leb k 3 ≡ true → rangeFit
 unfolding rawFrom
 subtree-fit n k o c x y z = record { size = refl; fields = simp (x, y, z) }
 
--- row 2 looks at the 13 words alone
-pub fields-same : (w : ℕ → ℕ) → wordFields (wordIn (thirteen w)) ≡ wordFields w
+-- row 2 looks at the words of the tree alone
+pub fields-same : (w : ℕ → ℕ) → wordFields (wordIn (treeList w)) ≡ wordFields w
 unfolding rawFrom
 fields-same w = refl
 

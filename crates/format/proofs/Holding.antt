@@ -14,9 +14,11 @@ use Rattle.format.specs.Plain.{Listing, endOf, sub}
 use Rattle.format.specs.Nest.{stillOpen, innermost, nestFrom, rooted, nest}
 use Rattle.format.specs.Buffer.{wordShape}
 use Rattle.format.specs.Tables.{partCount, indexedBelow}
-use Rattle.format.specs.WordList.{wordOf, thirteen, rawFrom, wordFields, listCount, given, rowTwo, listRules}
+use Rattle.format.specs.WordList.{wordOf, treeList, rawFrom, wordFields, listCount, given, rowTwo, listRules}
 use Rattle.format.specs.Writer.{partIndex, symbolIndex, rawOf, raws, present, rowFive}
 use Rattle.format.specs.Holding.{holdingAll}
+use Rattle.format.specs.Width.{openAt, closeAt, treeSize}
+use Rattle.format.specs.Part.{partFrom}
 use Rattle.format.proofs.Each.{and-right, both, refused-not}
 
 module _ (l : List ℕ) where
@@ -29,7 +31,7 @@ module _ (l : List ℕ) where
       go false = refl
 
   pub holding-count : listCount (holdingAll l) ≡ listCount l
-  holding-count = ap (λ n. n / 13) holding-length
+  holding-count = ap (λ n. n / treeSize) holding-length
 
   -- ---- the words
 
@@ -55,12 +57,12 @@ module _ (l : List ℕ) where
       go true = ap (set l 1) (sym e) ∙ set-getD l 1 0
       go false = refl
 
-  not-one : (n j : ℕ) → 1 ≤ n → 13 * n + j ≡ 1 → ⊥
+  not-one : (n j : ℕ) → 1 ≤ n → treeSize * n + j ≡ 1 → ⊥
   not-one n j h e = omega arith
 
   -- of every tree but the root
   pub holding-words : (n : ℕ) → 1 ≤ n → wordOf (holdingAll l) n ≡ wordOf l n
-  holding-words n h = λ i j. holding-other (13 * n + j) (not-one n j h) i
+  holding-words n h = λ i j. holding-other (treeSize * n + j) (not-one n j h) i
 
   -- ---- row 5 and the trees with their indices
 
@@ -68,7 +70,7 @@ module _ (l : List ℕ) where
     pub holding-raw : (n : ℕ) → 1 ≤ n → rawOf parts symbols (holdingAll l) n ≡ rawOf parts symbols l n
     holding-raw n h =
         ap (λ (w : ℕ → ℕ). if eqb n 0 then rawFrom (partCount parts symbols - 2) (partCount parts symbols - 1) 0 w else
-        rawFrom (partIndex parts symbols (w 3) (w 4) (w 5)) (partIndex parts symbols (w 8) (w 9) (w 10)) (symbolIndex parts symbols (w 1)) w) (holding-words n h)
+        rawFrom (partIndex parts symbols (partFrom w openAt)) (partIndex parts symbols (partFrom w closeAt)) (symbolIndex parts symbols (w 1)) w) (holding-words n h)
 
     pub holding-raws : (j n : ℕ) → 1 ≤ n → raws parts symbols (holdingAll l) j n ≡ raws parts symbols l j n
     unfolding raws
@@ -87,7 +89,7 @@ module _ (l : List ℕ) where
     holding-present (suc n) =
         let e : eqb (suc n) 0 ≡ false = ne-eqb (suc n) 0 (λ q. absurd (omega arith)) in
         simp e (ap (λ (w : ℕ → ℕ). indexedBelow (partCount parts symbols) (length symbols)
-        (rawFrom (partIndex parts symbols (w 3) (w 4) (w 5)) (partIndex parts symbols (w 8) (w 9) (w 10)) (symbolIndex parts symbols (w 1)) w)) (holding-words (suc n) (omega arith)))
+        (rawFrom (partIndex parts symbols (partFrom w openAt)) (partIndex parts symbols (partFrom w closeAt)) (symbolIndex parts symbols (w 1)) w)) (holding-words (suc n) (omega arith)))
 
     pub holding-five : (j n : ℕ) → eachFrom (rowFive parts symbols (holdingAll l)) j n ≡ eachFrom (rowFive parts symbols l) j n
     holding-five j n = ap (λ (f : ℕ → Verdict). eachFrom f j n) (λ i m. rule (holding-present m i) 5 m)
@@ -119,8 +121,8 @@ module _ (l : List ℕ) where
   unfolding nestFrom
   holding-below zero n es h = refl
   holding-below (suc j) n es h =
-      let w₀ = holding-other (13 * n + 0) (not-one n 0 h) in
-      let w₁ = holding-other (13 * n + 1) (not-one n 1 h) in
+      let w₀ = holding-other (treeSize * n + 0) (not-one n 0 h) in
+      let w₁ = holding-other (treeSize * n + 1) (not-one n 1 h) in
       let c = holding-length in
       let e₁ = holding-below j (n + 1) (endOf wordShape (given l) n ∷ stillOpen n es) (omega arith) in
       let e₂ = holding-below j (n + 1) (stillOpen n es) (omega arith) in

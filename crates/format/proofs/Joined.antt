@@ -5,7 +5,8 @@ use mathlib.Core.List.{List, [], _∷_, _++_}
 use native.Mathlib.Omega.{arith}
 use lib.ListN.{length, getD, take, drop, length-drop}
 use lib.Seq.{take-all, take-add, getD-drop}
-use Rattle.format.specs.WordList.{wordOf, thirteen, wordsUpTo, listCount, given}
+use Rattle.format.specs.WordList.{wordOf, treeList, wordsUpTo, listCount, given}
+use Rattle.format.specs.Width.{treeSize}
 
 pub words-same : (f g : ℕ → List ℕ) (k : ℕ) → ((n : ℕ) → n < k → f n ≡ g n) → wordsUpTo f k ≡ wordsUpTo g k
 unfolding wordsUpTo
@@ -24,21 +25,21 @@ take-tabled (suc n) [] h = absurd (omega arith)
 take-tabled (suc n) (x ∷ xs) h = ap (λ r. x ∷ r) (take-tabled n xs (omega arith))
 
 module _ (l : List ℕ) where
-  one-tree : (n : ℕ) → 13 * n + 13 ≤ length l → take 13 (drop (13 * n) l) ≡ thirteen (wordOf l n)
+  one-tree : (n : ℕ) → treeSize * n + treeSize ≤ length l → take treeSize (drop (treeSize * n) l) ≡ treeList (wordOf l n)
   unfolding tabled
   one-tree n h =
-      let d = length-drop (13 * n) l in
-      take-tabled 13 (drop (13 * n) l) (omega arith) ∙ simp getD-drop
+      let d = length-drop (treeSize * n) l in
+      take-tabled treeSize (drop (treeSize * n) l) (omega arith) ∙ simp getD-drop
 
-  words-take : (k : ℕ) → 13 * k ≤ length l → wordsUpTo (given l .tree) k ≡ take (13 * k) l
+  words-take : (k : ℕ) → treeSize * k ≤ length l → wordsUpTo (given l .tree) k ≡ take (treeSize * k) l
   unfolding wordsUpTo
   words-take zero h = refl
   words-take (suc k) h =
-      let e : 13 * suc k ≡ 13 * k + 13 = omega arith in
+      let e : treeSize * suc k ≡ treeSize * k + treeSize = omega arith in
       let r = words-take k (omega arith) in
-      rw (e, take-add (13 * k) 13 l, r, one-tree k (omega arith))
+      rw (e, take-add (treeSize * k) treeSize l, r, one-tree k (omega arith))
 
-  pub words-whole : length l % 13 ≡ 0 → wordsUpTo (given l .tree) (listCount l) ≡ l
+  pub words-whole : length l % treeSize ≡ 0 → wordsUpTo (given l .tree) (listCount l) ≡ l
   words-whole h =
-      let e : 13 * (length l / 13) ≡ length l = omega arith in
-      words-take (listCount l) (omega arith) ∙ take-all (13 * listCount l) l (omega arith)
+      let e : treeSize * (length l / treeSize) ≡ length l = omega arith in
+      words-take (listCount l) (omega arith) ∙ take-all (treeSize * listCount l) l (omega arith)

@@ -8,9 +8,12 @@ use lib.ListN.{getD}
 use lib.Dec.{eqb}
 use borrow.Author.Tests.{eqb-true, eq-eqb, ne-eqb}
 use Rattle.format.specs.WordList.{wordOf}
-use Rattle.format.specs.MakeTables.{liveAt, keyPlace, keyWord, keyWords, alikeAt, sort, openPart, closePart}
+use Rattle.format.specs.MakeTables.{liveAt, keyPlace, keyWord, keyPart, keyWords, alikeAt, sort, openPart, closePart}
+use Rattle.format.specs.Width.{openAt, closeAt, treeSize}
+use Rattle.format.specs.Part.{partWords}
 use Rattle.format.proofs.Each.{and-left, and-right}
 use Rattle.format.proofs.NewsLaw.{Likeness}
+use Rattle.format.proofs.PartLaw.{same-part, part-same, words-part, part-from}
 
 -- ---- alike
 
@@ -21,23 +24,18 @@ module _ (l : List ℕ) where
   pub alike-words : (s : Bool) (u v : ℕ) → alikeAt l s u v ≡ true → keyWords l s u ≡ keyWords l s v
   unfolding alikeAt
   alike-words true u v h =
-      let e : keyWord l true u 0 ≡ keyWord l true v 0 = eqb-true _ _ (and-left (eqb (keyWord l true u 0) (keyWord l true v 0)) true h) in
+      let e : keyWord l true u 0 ≡ keyWord l true v 0 = eqb-true _ _ h in
       rw e
-  alike-words false u v h =
-      let a = eqb (keyWord l false u 0) (keyWord l false v 0) in
-      let b = eqb (keyWord l false u 1) (keyWord l false v 1) in
-      let c = eqb (keyWord l false u 2) (keyWord l false v 2) in
-      let g = and-right a (b && c) h in
-      three (eqb-true _ _ (and-left a (b && c) h)) (eqb-true _ _ (and-left b c g)) (eqb-true _ _ (and-right b c g))
+  alike-words false u v h = ap partWords (same-part (keyPart l u) (keyPart l v) h)
+
+  pub alike-part : (u v : ℕ) → alikeAt l false u v ≡ true → keyPart l u ≡ keyPart l v
+  unfolding alikeAt
+  alike-part u v h = same-part (keyPart l u) (keyPart l v) h
 
   pub words-alike : (s : Bool) (u v : ℕ) → keyWords l s u ≡ keyWords l s v → alikeAt l s u v ≡ true
   unfolding alikeAt
   words-alike true u v h = let e : keyWord l true u 0 ≡ keyWord l true v 0 = cc in simp (eq-eqb _ _ e)
-  words-alike false u v h =
-      let a : keyWord l false u 0 ≡ keyWord l false v 0 = cc in
-      let b : keyWord l false u 1 ≡ keyWord l false v 1 = cc in
-      let c : keyWord l false u 2 ≡ keyWord l false v 2 = cc in
-      simp (eq-eqb _ _ a, eq-eqb _ _ b, eq-eqb _ _ c)
+  words-alike false u v h = part-same (keyPart l u) (keyPart l v) (words-part (keyPart l u) (keyPart l v) h)
 
   pub likeness : (s : Bool) → Likeness (alikeAt l s)
   likeness s =
@@ -49,35 +47,35 @@ module _ (l : List ℕ) where
 
   -- ---- tree m + 1 has the symbol number m and the part numbers 2 m and 2 m + 1
 
-  symbol-at : (m : ℕ) → keyPlace true m + 0 ≡ 13 * (m + 1) + 1
+  symbol-at : (m : ℕ) → keyPlace true m + 0 ≡ treeSize * (m + 1) + 1
   unfolding keyPlace
   symbol-at m = omega arith
 
-  open-at : (m j : ℕ) → keyPlace false (2 * m) + j ≡ 13 * (m + 1) + (3 + j)
+  open-at : (m j : ℕ) → keyPlace false (2 * m) + j ≡ treeSize * (m + 1) + (openAt + j)
   unfolding keyPlace
   open-at m j = omega arith
 
-  close-at : (m j : ℕ) → keyPlace false (2 * m + 1) + j ≡ 13 * (m + 1) + (8 + j)
+  close-at : (m j : ℕ) → keyPlace false (2 * m + 1) + j ≡ treeSize * (m + 1) + (closeAt + j)
   unfolding keyPlace
   close-at m j = omega arith
 
   pub symbol-word : (m : ℕ) → keyWord l true m 0 ≡ wordOf l (m + 1) 1
   symbol-word m = ap (λ (i : ℕ). getD l i 0) (symbol-at m)
 
-  open-word : (m j : ℕ) → keyWord l false (2 * m) j ≡ wordOf l (m + 1) (3 + j)
+  open-word : (m j : ℕ) → keyWord l false (2 * m) j ≡ wordOf l (m + 1) (openAt + j)
   open-word m j = ap (λ (i : ℕ). getD l i 0) (open-at m j)
 
-  close-word : (m j : ℕ) → keyWord l false (2 * m + 1) j ≡ wordOf l (m + 1) (8 + j)
+  close-word : (m j : ℕ) → keyWord l false (2 * m + 1) j ≡ wordOf l (m + 1) (closeAt + j)
   close-word m j = ap (λ (i : ℕ). getD l i 0) (close-at m j)
 
-  pub open-words : (m : ℕ) → keyWords l false (2 * m) ≡ openPart l (m + 1)
-  open-words m = three (open-word m 0) (open-word m 1) (open-word m 2)
+  pub open-key : (m : ℕ) → keyPart l (2 * m) ≡ openPart l (m + 1)
+  open-key m = part-from (keyWord l false (2 * m)) (wordOf l (m + 1)) openAt (open-word m)
 
-  pub close-words : (m : ℕ) → keyWords l false (2 * m + 1) ≡ closePart l (m + 1)
-  close-words m = three (close-word m 0) (close-word m 1) (close-word m 2)
+  pub close-key : (m : ℕ) → keyPart l (2 * m + 1) ≡ closePart l (m + 1)
+  close-key m = part-from (keyWord l false (2 * m + 1)) (wordOf l (m + 1)) closeAt (close-word m)
 
-  sort-at : (n : ℕ) → getD l (13 * n) 0 ≡ sort l n
-  sort-at n = ap (λ (i : ℕ). getD l i 0) (let e : 13 * n ≡ 13 * n + 0 = omega arith in e)
+  sort-at : (n : ℕ) → getD l (treeSize * n) 0 ≡ sort l n
+  sort-at n = ap (λ (i : ℕ). getD l i 0) (let e : treeSize * n ≡ treeSize * n + 0 = omega arith in e)
 
   pub live-symbol : (m : ℕ) → liveAt l true m ≡ (eqb (sort l (m + 1)) 1 || eqb (sort l (m + 1)) 2)
   unfolding liveAt

@@ -17,6 +17,7 @@ use Rattle.format.specs.Fields.{spanFits, fields}
 use Rattle.format.specs.Tables.{rules, Tables, partCount, indexedRoot, rowEight, treeWords, ownTables}
 use Rattle.format.specs.Buffer.{wordShape, reader, ownReader, bufferCheck}
 use Rattle.format.specs.Root.{RootOnly}
+use Rattle.format.specs.Width.{partSize}
 use Rattle.format.proofs.Each.{and-left, and-right, and₃}
 use Rattle.format.proofs.CheckLaw.{check-sound}
 use Rattle.format.proofs.Reading.{Clean, clean-read, each-clean}
@@ -89,8 +90,8 @@ module _ (b : List ℕ) (k : ℕ) (parts symbols : List ℕ) where
     unfolding treeWords
     rewritten =
         let r = root-of ad in
-        let row8 : rowEight (length parts′ / 3) (length symbols) 0 (subtree s t (wordAt b 25) d) ≡ 0 =
-        ap (λ m. rowEight (m / 3) (length symbols) 0 (subtree s t (wordAt b 25) d)) (kept .table) ∙ simp g in
+        let row8 : rowEight (length parts′ / partSize) (length symbols) 0 (subtree s t (wordAt b 25) d) ≡ 0 =
+        ap (λ m. rowEight (m / partSize) (length symbols) 0 (subtree s t (wordAt b 25) d)) (kept .table) ∙ simp g in
         root-only b c k parts parts′ symbols kept ad (treeWords parts′ symbols (subtree s t (wordAt b 25) d))
         (clean-read (ownTables parts′ symbols .words) (rules (ownTables parts′ symbols)) 0 0 (treeAt c 0) _ 33 (stored wordShape R 0)
         (record { raw = subtree s t (wordAt b 25) d; stands = rw (r .kids) e; form = refl; row2 = f; row8 = row8; shown = refl }))
@@ -104,17 +105,17 @@ module _ (b : List ℕ) (k : ℕ) (parts symbols : List ℕ) where
   -- ---- the sizes of its tables
 
   pub record Sizes : Type 0 where
-    pub whole : length parts % 3 ≡ 0
+    pub whole : length parts % partSize ≡ 0
     pub two : 2 ≤ P
     pub many : P ≤ 2097152
 
   pub sizes : Admitted wordShape R → Sizes
   sizes ad =
       let t = and-right (leb 1 k && leb k 1048576) (T .sized) (ad .sized) in
-      let u = and-right (eqb (length parts % 3) 0) (leb 2 P && leb P 2097152 && leb (length symbols) 1048576) t in
+      let u = and-right (eqb (length parts % partSize) 0) (leb 2 P && leb P 2097152 && leb (length symbols) 1048576) t in
       let v = and₃ (leb 2 P) (leb P 2097152) (leb (length symbols) 1048576) u in
       record {
-        whole = eqb-true (length parts % 3) 0 (and-left (eqb (length parts % 3) 0) (leb 2 P && leb P 2097152 && leb (length symbols) 1048576) t);
+        whole = eqb-true (length parts % partSize) 0 (and-left (eqb (length parts % partSize) 0) (leb 2 P && leb P 2097152 && leb (length symbols) 1048576) t);
         two = leb-true 2 P (v .0);
         many = leb-true P 2097152 (v .1);
       }

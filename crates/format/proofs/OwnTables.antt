@@ -16,9 +16,12 @@ use Rattle.format.specs.Tables.{partCount, indexedBelow, ownTables}
 use Rattle.format.specs.Buffer.{wordShape}
 use Rattle.format.specs.WordList.{wordOf, rawFrom, noClose, wordFields, listCount, given, listSized, rowTwo, listRules, listRows}
 use Rattle.format.specs.Writer.{find, isPart, partIndex, symbolIndex, present, rowFive, listVerdict}
-use Rattle.format.specs.MakeTables.{partTable, symbolTable, partTotal, partAt}
+use Rattle.format.specs.MakeTables.{openPart, closePart, partTable, symbolTable, partTotal}
+use Rattle.format.specs.Width.{partSize, openAt, closeAt, treeSize}
+use Rattle.format.specs.Part.{Part, partFrom, partAt}
 use Rattle.format.proofs.Each.{and-left, and-right, true-false, both, rule-passed, each-all, all-each}
 use Rattle.format.proofs.TableLaw.{parts-least, parts-bounded, part-words, symbols-most, root-open, root-close, open-place, close-place, symbol-place}
+use Rattle.format.proofs.PartLaw.{part-same}
 
 -- the first that passes a test is at most any that does
 find-most : (t : ℕ → Bool) (j i m : ℕ) → i ≤ m → m < i + j → t m ≡ true → find t j i ≤ m
@@ -41,16 +44,9 @@ module _ (l : List ℕ) where
 
   -- ---- the tables' entries, as the rules test them
 
-  is-part : (f a c i : ℕ) → partAt P i ≡ f ∷ a ∷ c ∷ [] → isPart P Y f a c i ≡ true
-  is-part f a c i e =
-      let x : getD P (3 * i) 0 ≡ f = cc in
-      let y : getD P (3 * i + 1) 0 ≡ a = cc in
-      let z : getD P (3 * i + 2) 0 ≡ c = cc in
-      simp (eq-eqb _ _ x, eq-eqb _ _ y, eq-eqb _ _ z)
-
-  part-index : (f a c : ℕ) → (i : ℕ) × (i + 2 < partTotal l) × (partAt P i ≡ f ∷ a ∷ c ∷ []) → partIndex P Y f a c + 2 < partCount P Y
-  part-index f a c (i, h, e) =
-      let m : partIndex P Y f a c ≤ i = find-most (isPart P Y f a c) (partTotal l - 2) 0 i (omega arith) (omega arith) (is-part f a c i e) in
+  part-index : (p : Part) → (i : ℕ) × (i + 2 < partTotal l) × (partAt P i ≡ p) → partIndex P Y p + 2 < partCount P Y
+  part-index p (i, h, e) =
+      let m : partIndex P Y p ≤ i = find-most (isPart P Y p) (partTotal l - 2) 0 i (omega arith) (omega arith) (part-same (partAt P i) p e) in
       omega arith
 
   symbol-index : (y : ℕ) → (i : ℕ) × (i < length Y) × (getD Y i 0 ≡ y) → symbolIndex P Y y < length Y
@@ -63,7 +59,7 @@ module _ (l : List ℕ) where
   tables-sized : listCount l ≤ 1048576 → ownTables P Y .sized ≡ true
   tables-sized h =
       let w = part-words l in
-      let a : length P % 3 ≡ 0 = omega arith in
+      let a : length P % partSize ≡ 0 = omega arith in
       let b = parts-least l in
       let c = parts-bounded l h in
       let s = symbols-most l in
@@ -74,8 +70,8 @@ module _ (l : List ℕ) where
 
   root-present : present P Y l 0 ≡ true
   root-present =
-      let a = is-part (wordOf l 0 3) (wordOf l 0 4) (wordOf l 0 5) (partTotal l - 2) (root-open l) in
-      let b = is-part (wordOf l 0 8) (wordOf l 0 9) (wordOf l 0 10) (partTotal l - 1) (root-close l) in
+      let a = part-same (partAt P (partTotal l - 2)) (openPart l 0) (root-open l) in
+      let b = part-same (partAt P (partTotal l - 1)) (closePart l 0) (root-close l) in
       simp (a, b)
 
   -- indices in range of a tree by its words
@@ -104,9 +100,9 @@ module _ (l : List ℕ) where
       let r : wordOf l n 0 ≤ 3 =
       leb-true (w 0) 3 (and-left (leb (w 0) 3) (fields (rawFrom 0 0 0 w)) (and-left (leb (w 0) 3 && fields (rawFrom 0 0 0 w)) (eqb (w 0) 3 || noClose w) f)) in
       simp z
-      (indexed-from (partIndex P Y (w 3) (w 4) (w 5)) (partIndex P Y (w 8) (w 9) (w 10)) (symbolIndex P Y (w 1)) w r
-      (part-index (w 3) (w 4) (w 5) (open-place l n g h))
-      (λ s. part-index (w 8) (w 9) (w 10) (close-place l n g h s))
+      (indexed-from (partIndex P Y (partFrom w openAt)) (partIndex P Y (partFrom w closeAt)) (symbolIndex P Y (w 1)) w r
+      (part-index (partFrom w openAt) (open-place l n g h))
+      (λ s. part-index (partFrom w closeAt) (close-place l n g h s))
       (λ s. symbol-index (w 1) (symbol-place l n g h s)))
 
   tree-present : (n : ℕ) → n < listCount l → wordFields (wordOf l n) ≡ true → present P Y l n ≡ true
@@ -140,7 +136,7 @@ module _ (l : List ℕ) where
   unfolding listVerdict
   own-tables =
       no-more (listSized l) (ownTables P Y .sized) (listRules l) (each (rowFive P Y l) (listCount l))
-      (λ e. tables-sized (leb-true (listCount l) 1048576 (and-right (eqb (length l % 13) 0 && leb 1 (listCount l)) (leb (listCount l) 1048576) e)))
+      (λ e. tables-sized (leb-true (listCount l) 1048576 (and-right (eqb (length l % treeSize) 0 && leb 1 (listCount l)) (leb (listCount l) 1048576) e)))
       all-present
 
   pub own-passes : listRows l ≡ passed → listVerdict (partTable l) (symbolTable l) l ≡ passed

@@ -14,6 +14,7 @@ use Rattle.format.specs.Tree.{Raw, punct, ident, literal, subtree, isSub
 use Rattle.format.specs.Fields.{fields}
 use Rattle.format.specs.Tables.{TableRules, Tables, rules, treeWords, countRules, ownTables}
 use Rattle.format.specs.Buffer.{formed, unless, judge, wordShape, rawShape, reader, rawReader, ownReader, bufferCheck, sizeReader}
+use Rattle.format.specs.Width.{partSize}
 use Rattle.format.proofs.Each.{true-false}
 use Rattle.format.proofs.Sight.{check-same}
 
@@ -78,9 +79,9 @@ own-telling parts symbols = record { sort = λ n t. sorted t; count = λ n t e. 
     counted (subtree s t n d) e = refl
 
 -- with whole parts the check needs the number of parts and of symbols, and no entry
-pub own-check : (b : List ℕ) (k : ℕ) (parts symbols : List ℕ) → length parts % 3 ≡ 0
-    → bufferCheck b k parts symbols ≡ check rawShape (sizeReader b k (length parts / 3) (length symbols))
+pub own-check : (b : List ℕ) (k : ℕ) (parts symbols : List ℕ) → length parts % partSize ≡ 0
+    → bufferCheck b k parts symbols ≡ check rawShape (sizeReader b k (length parts / partSize) (length symbols))
 unfolding ownReader sizeReader
 own-check b k parts symbols h =
-    let e = eq-eqb (length parts % 3) 0 h in
-    raw-check b k (ownTables parts symbols) (countRules (length parts / 3) (length symbols)) (own-telling parts symbols) (simp e) (λ n t. refl)
+    let e = eq-eqb (length parts % partSize) 0 h in
+    raw-check b k (ownTables parts symbols) (countRules (length parts / partSize) (length symbols)) (own-telling parts symbols) (simp e) (λ n t. refl)

@@ -12,13 +12,14 @@ use Rattle.format.specs.Check.{check, placeOf}
 use Rattle.format.specs.Write.{heavyBytes}
 use Rattle.format.specs.Tables.{treeWords}
 use Rattle.format.specs.Buffer.{judge, ownReader}
-use Rattle.format.specs.Root.{WordSpan, kindVerdict, kindAfter, spansVerdict, spansAfter, partsAfter}
+use Rattle.format.specs.Root.{kindVerdict, kindAfter, spansVerdict, spansAfter, partsAfter}
+use Rattle.format.specs.Part.{WordSpan}
 
 abbrev zeros : ℕ → List ℕ
 zeros n = replicate n 0
 
 abbrev given : ℕ → ℕ → ℕ → ℕ → ℕ → WordSpan
-given f a c s l = record { file = f; ast = a; context = c; start = s; len = l }
+given f a c s l = record { part = record { file = f; ast = a; context = c }; start = s; len = l }
 
 -- "Lone Invisible root, spans 0 and 0, two parts: 00 40 00 00, 01 00 00 00, four 00, 1D, 04 40 00 00, 01 00 00 00, twelve 00"
 abbrev loneRoot : List ℕ

@@ -1,4 +1,4 @@
--- The root's spans rewritten: the buffer stays admitted, and of its list words 3 to 12 of tree 0 are the new spans; nothing else has changed.
+-- The root's spans rewritten: the buffer stays admitted, and of its list the spans of tree 0 are the new spans; nothing else has changed.
 use Prim.Native.Nat.{ℕ, _+_, _*_, _-_, _/_, _≤_, _<_}
 use mathlib.Core.Bool.{true, false, _&&_}
 use mathlib.Core.Path.{_≡_, refl, sym, ap, _∙_}
@@ -16,8 +16,11 @@ use Rattle.format.specs.Fields.{spanFits}
 use Rattle.format.specs.Tables.{partCount, treeWords, ownTables}
 use Rattle.format.specs.Buffer.{wordShape, reader, ownReader, bufferCheck}
 use Rattle.format.specs.Write.{heavyBytes}
-use Rattle.format.specs.Root.{WordSpan, rangeFits, indexed, spansVerdict, newSpans, newParts, spansAfter, partsAfter, OnlySpans, fiveWords, withSpans, RootOnly}
+use Rattle.format.specs.Root.{rangeFits, spansVerdict, newSpans, newParts, spansAfter, partsAfter, OnlySpans, withSpans, RootOnly}
+use Rattle.format.specs.Width.{partSize}
+use Rattle.format.specs.Part.{partWords, WordSpan, spanList, indexed}
 use Rattle.format.proofs.Each.{and-left, and-right, both, rule-passed}
+use Rattle.format.proofs.PartLaw.{entry-same}
 use Rattle.format.proofs.CheckLaw.{check-complete}
 use Rattle.format.proofs.Holds.{Holds}
 use Rattle.format.proofs.SpanBack.{Packable, heavy-back}
@@ -61,8 +64,8 @@ module _ (b : List ℕ) (k : ℕ) (parts symbols : List ℕ) (opening closing : 
   abbrev ys : List ℕ
   ys = heavyBytes 0 U
 
-  abbrev six : List ℕ
-  six = opening .file ∷ opening .ast ∷ opening .context ∷ closing .file ∷ closing .ast ∷ closing .context ∷ []
+  abbrev pair : List ℕ
+  pair = partWords (opening .part) ++ partWords (closing .part)
 
   module _ (ok : verdict ≡ passed) where
     spans-passed : (bufferCheck b k parts symbols ≡ passed) × (spanFits S ≡ true) × (spanFits U ≡ true)
@@ -155,14 +158,14 @@ module _ (b : List ℕ) (k : ℕ) (parts symbols : List ℕ) (opening closing : 
 
     -- the part table
 
-    lastFit : length parts - 6 + 6 ≤ length parts
+    lastFit : length parts - 2 * partSize + 2 * partSize ≤ length parts
     lastFit =
         let z = sizes b k parts symbols ad in
         let a = z .two in
         omega arith
 
     tableSize : length table ≡ length parts
-    tableSize = put-length parts (length parts - 6) six lastFit
+    tableSize = put-length parts (length parts - 2 * partSize) pair lastFit
 
     kept : Kept b new parts table
     kept =
@@ -170,27 +173,24 @@ module _ (b : List ℕ) (k : ℕ) (parts symbols : List ℕ) (opening closing : 
           size = size;
           bytes = λ i l. behind i (omega arith);
           table = tableSize;
-          entries = λ i l. put-before parts (length parts - 6) six lastFit i (omega arith);
+          entries = λ i l. put-before parts (length parts - 2 * partSize) pair lastFit i (omega arith);
         }
 
-    part-word : (i j : ℕ) → j < 6 → i ≡ length parts - 6 + j → getD table i 0 ≡ getD six j 0
-    part-word i j l e = rw e (put-at parts (length parts - 6) six lastFit j l)
+    part-word : (i j : ℕ) → j < 2 * partSize → i ≡ length parts - 2 * partSize + j → getD table i 0 ≡ getD pair j 0
+    part-word i j l e = rw e (put-at parts (length parts - 2 * partSize) pair lastFit j l)
 
-    spans-words : treeWords table symbols newRoot ≡ 3 ∷ wordAt b 25 ∷ byteAt b 12 / 8 ∷ fiveWords opening ++ fiveWords closing
+    spans-words : treeWords table symbols newRoot ≡ 3 ∷ wordAt b 25 ∷ byteAt b 12 / 8 ∷ spanList opening ++ spanList closing
     unfolding treeWords
     spans-words =
         let z = sizes b k parts symbols ad in
         let a = z .two in
         let w = z .whole in
-        let x₀ = part-word (3 * (P - 2)) 0 (omega arith) (omega arith) in
-        let x₁ = part-word (3 * (P - 2) + 1) 1 (omega arith) (omega arith) in
-        let x₂ = part-word (3 * (P - 2) + 2) 2 (omega arith) (omega arith) in
-        let x₃ = part-word (3 * (P - 1)) 3 (omega arith) (omega arith) in
-        let x₄ = part-word (3 * (P - 1) + 1) 4 (omega arith) (omega arith) in
-        let x₅ = part-word (3 * (P - 1) + 2) 5 (omega arith) (omega arith) in
-        simp (x₀, x₁, x₂, x₃, x₄, x₅)
+        let o = entry-same table pair (P - 2) 0 (λ j h. part-word (partSize * (P - 2) + j) (partSize * 0 + j) (omega arith) (omega arith)) in
+        let c = entry-same table pair (P - 1) 1 (λ j h. part-word (partSize * (P - 1) + j) (partSize * 1 + j) (omega arith) (omega arith)) in
+        λ i. 3 ∷ wordAt b 25 ∷ byteAt b 12 / 8
+        ∷ spanList (record { part = o i; start = opening .start; len = opening .len }) ++ spanList (record { part = c i; start = closing .start; len = closing .len })
 
-    -- the buffer stays admitted over the new parts; of its list, words 3 to 12 of tree 0 are the new spans and all else is as it was
+    -- the buffer stays admitted over the new parts; of its list, the spans of tree 0 are the new ones and all else is as it was
     pub spans-rewritten : RootOnly old (ownReader after k partsNow symbols) (withSpans opening closing (listing wordShape old .tree 0))
     unfolding ownReader treeWords spansAfter partsAfter
     spans-rewritten =

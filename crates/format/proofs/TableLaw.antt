@@ -10,39 +10,34 @@ use lib.Dec.{eqb}
 use borrow.Author.Tests.{eqb-true, ne-eqb}
 use Rattle.format.specs.WordList.{wordOf, listCount}
 use Rattle.format.specs.Distinct.{tally, hits}
-use Rattle.format.specs.MakeTables.{keyCount, liveAt, keyWord, keyWords, alikeAt, timesOf, tableKeys, wordsOf, tableWords, rootParts}
-use Rattle.format.specs.MakeTables.{partTable, partCounts, symbolTable, symbolCounts, partTotal, sort, isIdent, isLiteral, isSubtree, openPart, closePart, partAt, same, total, below}
+use Rattle.format.specs.MakeTables.{keyCount, liveAt, keyWord, keyPart, keyWords, alikeAt, timesOf, tableKeys, wordsOf, tableWords, rootParts}
+use Rattle.format.specs.MakeTables.{partTable, partCounts, symbolTable, symbolCounts, partTotal, sort, isIdent, isLiteral, isSubtree, openPart, closePart, total, below}
+use Rattle.format.specs.Width.{partSize}
+use Rattle.format.specs.Part.{Part, partWords, samePart, partAt}
 use Rattle.format.proofs.Tally.{lt-or-le, tally-all, tally-same, tally-or, tally-not, tally-pairs}
-use Rattle.format.proofs.KeyLaw.{alike-words, symbol-word, open-words, close-words, live-symbol, live-open, live-close}
+use Rattle.format.proofs.PartLaw.{part-on}
+use Rattle.format.proofs.KeyLaw.{alike-words, alike-part, symbol-word, open-key, close-key, live-symbol, live-open, live-close}
 use Rattle.format.proofs.TableKeys.{key-below, key-live, key-place, key-words-apart, counts-many, count-at, counts-total, keys-most}
 
 -- ---- the words of keys, one key after the other
 
 module _ (l : List ℕ) where
-  part-words-many : (ks : List ℕ) → length (wordsOf l false ks) ≡ 3 * length ks
+  part-words-many : (ks : List ℕ) → length (wordsOf l false ks) ≡ partSize * length ks
   unfolding wordsOf
   part-words-many [] = refl
-  part-words-many (x ∷ xs) = let e : length (wordsOf l false xs) ≡ 3 * length xs = part-words-many xs in omega arith
+  part-words-many (x ∷ xs) = let e : length (wordsOf l false xs) ≡ partSize * length xs = part-words-many xs in omega arith
 
   symbol-words-many : (ks : List ℕ) → length (wordsOf l true ks) ≡ length ks
   unfolding wordsOf
   symbol-words-many [] = refl
   symbol-words-many (x ∷ xs) = ap suc (symbol-words-many xs)
 
-  -- one part on
-  part-on : (a b c : ℕ) (t : List ℕ) (i : ℕ) → partAt (a ∷ b ∷ c ∷ t) (suc i) ≡ partAt t i
-  part-on a b c t i =
-      let e₁ : 3 * suc i + 1 ≡ suc (suc (suc (3 * i + 1))) = omega arith in
-      let e₂ : 3 * suc i + 2 ≡ suc (suc (suc (3 * i + 2))) = omega arith in
-      let e₀ : 3 * suc i ≡ suc (suc (suc (3 * i))) = omega arith in
-      rw (e₁, e₂, e₀)
-
-  part-words-at : (ks more : List ℕ) (i : ℕ) → i < length ks → partAt (wordsOf l false ks ++ more) i ≡ keyWords l false (getD ks i 0)
+  part-words-at : (ks more : List ℕ) (i : ℕ) → i < length ks → partAt (wordsOf l false ks ++ more) i ≡ keyPart l (getD ks i 0)
   unfolding wordsOf
   part-words-at [] more i h = absurd (omega arith)
   part-words-at (x ∷ xs) more zero h = refl
   part-words-at (x ∷ xs) more (suc i) h =
-      part-on (keyWord l false x 0) (keyWord l false x 1) (keyWord l false x 2) (wordsOf l false xs ++ more) i ∙ part-words-at xs more i (omega arith)
+      part-on (keyPart l x) (wordsOf l false xs ++ more) i ∙ part-words-at xs more i (omega arith)
 
   part-words-behind : (ks more : List ℕ) (d : ℕ) → partAt (wordsOf l false ks ++ more) (length ks + d) ≡ partAt more d
   unfolding wordsOf
@@ -50,7 +45,7 @@ module _ (l : List ℕ) where
   part-words-behind (x ∷ xs) more d =
       let e : suc (length xs) + d ≡ suc (length xs + d) = omega arith in
       rw e
-      (part-on (keyWord l false x 0) (keyWord l false x 1) (keyWord l false x 2) (wordsOf l false xs ++ more) (length xs + d) ∙ part-words-behind xs more d)
+      (part-on (keyPart l x) (wordsOf l false xs ++ more) (length xs + d) ∙ part-words-behind xs more d)
 
   symbol-words-at : (ks : List ℕ) (i : ℕ) → i < length ks → getD (wordsOf l true ks) i 0 ≡ keyWord l true (getD ks i 0) 0
   unfolding wordsOf
@@ -60,14 +55,14 @@ module _ (l : List ℕ) where
 
   -- ---- sizes
 
-  part-keys : length (partTable l) ≡ 3 * (length (tableKeys l false) + 2)
+  part-keys : length (partTable l) ≡ partSize * (length (tableKeys l false) + 2)
   unfolding partTable tableWords
   part-keys = let e = part-words-many (tableKeys l false) in length-append (wordsOf l false (tableKeys l false)) (rootParts l) ∙ omega arith
 
   pub parts-many : partTotal l ≡ length (tableKeys l false) + 2
   parts-many = let e = part-keys in omega arith
 
-  pub part-words : length (partTable l) ≡ 3 * partTotal l
+  pub part-words : length (partTable l) ≡ partSize * partTotal l
   part-words = let e = part-keys in omega arith
 
   pub symbols-many : length (symbolTable l) ≡ length (tableKeys l true)
@@ -100,7 +95,7 @@ module _ (l : List ℕ) where
 
   -- ---- entries
 
-  pub part-entry : (i : ℕ) → i + 2 < partTotal l → partAt (partTable l) i ≡ keyWords l false (getD (tableKeys l false) i 0)
+  pub part-entry : (i : ℕ) → i + 2 < partTotal l → partAt (partTable l) i ≡ keyPart l (getD (tableKeys l false) i 0)
   unfolding partTable tableWords
   part-entry i h = let e = parts-many in part-words-at (tableKeys l false) (rootParts l) i (omega arith)
 
@@ -125,10 +120,10 @@ module _ (l : List ℕ) where
 
   -- ---- every part and every symbol below the root has a place
 
-  abbrev HasPart : List ℕ → Type 0
+  abbrev HasPart : Part → Type 0
   HasPart p = (i : ℕ) × (i + 2 < partTotal l) × (partAt (partTable l) i ≡ p)
 
-  number-place : (v : ℕ) (p : List ℕ) → v < 2 * (listCount l - 1) → liveAt l false v ≡ true → keyWords l false v ≡ p → HasPart p
+  number-place : (v : ℕ) (p : Part) → v < 2 * (listCount l - 1) → liveAt l false v ≡ true → keyPart l v ≡ p → HasPart p
   unfolding keyCount
   number-place v p h d w = at (key-place l false v h d)
     where
@@ -136,17 +131,17 @@ module _ (l : List ℕ) where
       at (i, k, a) =
           let e = parts-many in
           let g : i + 2 < partTotal l = omega arith in
-          (i, g, part-entry i g ∙ alike-words l false (getD (tableKeys l false) i 0) v a ∙ w)
+          (i, g, part-entry i g ∙ alike-part l (getD (tableKeys l false) i 0) v a ∙ w)
 
   pub open-place : (n : ℕ) → 1 ≤ n → n < listCount l → (i : ℕ) × (i + 2 < partTotal l) × (partAt (partTable l) i ≡ openPart l n)
   open-place n a b =
       let e : n - 1 + 1 ≡ n = omega arith in
-      number-place (2 * (n - 1)) (openPart l n) (omega arith) (live-open l (n - 1)) (open-words l (n - 1) ∙ ap (openPart l) e)
+      number-place (2 * (n - 1)) (openPart l n) (omega arith) (live-open l (n - 1)) (open-key l (n - 1) ∙ ap (openPart l) e)
 
   pub close-place : (n : ℕ) → 1 ≤ n → n < listCount l → isSubtree l n ≡ true → (i : ℕ) × (i + 2 < partTotal l) × (partAt (partTable l) i ≡ closePart l n)
   close-place n a b s =
       let e : n - 1 + 1 ≡ n = omega arith in
-      number-place (2 * (n - 1) + 1) (closePart l n) (omega arith) (live-close l (n - 1) ∙ ap (isSubtree l) e ∙ s) (close-words l (n - 1) ∙ ap (closePart l) e)
+      number-place (2 * (n - 1) + 1) (closePart l n) (omega arith) (live-close l (n - 1) ∙ ap (isSubtree l) e ∙ s) (close-key l (n - 1) ∙ ap (closePart l) e)
 
   pub symbol-place : (n : ℕ) → 1 ≤ n → n < listCount l → (isIdent l n || isLiteral l n) ≡ true
       → (i : ℕ) × (i < length (symbolTable l)) × (getD (symbolTable l) i 0 ≡ wordOf l n 1)
@@ -169,7 +164,7 @@ module _ (l : List ℕ) where
   pub parts-apart : (i j : ℕ) → i + 2 < partTotal l → j + 2 < partTotal l → partAt (partTable l) i ≡ partAt (partTable l) j → i ≡ j
   parts-apart i j h g e =
       let n = parts-many in
-      key-words-apart l false i j (omega arith) (omega arith) (sym (part-entry i h) ∙ e ∙ part-entry j g)
+      key-words-apart l false i j (omega arith) (omega arith) (ap partWords (sym (part-entry i h) ∙ e ∙ part-entry j g))
 
   pub symbols-apart : (i j : ℕ) → i < length (symbolTable l) → j < length (symbolTable l) → getD (symbolTable l) i 0 ≡ getD (symbolTable l) j 0 → i ≡ j
   symbols-apart i j h g e =
@@ -190,10 +185,10 @@ module _ (l : List ℕ) where
         ⊎-elim
             (λ q.
             let e : v ≡ 2 * (v / 2) = omega arith in
-            inl (part-entry i h ∙ ap (keyWords l false) e ∙ open-words l (v / 2)))
+            inl (part-entry i h ∙ ap (keyPart l) e ∙ open-key l (v / 2)))
             (λ q.
             let e : v ≡ 2 * (v / 2) + 1 = omega arith in
-            inr (sym (live-close l (v / 2)) ∙ ap (liveAt l false) (sym e) ∙ d, part-entry i h ∙ ap (keyWords l false) e ∙ close-words l (v / 2)))
+            inr (sym (live-close l (v / 2)) ∙ ap (liveAt l false) (sym e) ∙ d, part-entry i h ∙ ap (keyPart l) e ∙ close-key l (v / 2)))
             (lt-or-le (v % 2) 1),
       )
 
@@ -209,28 +204,17 @@ module _ (l : List ℕ) where
 
   -- ---- its count is how often it stands
 
-  alike-same : (u v : ℕ) → alikeAt l false u v ≡ same (keyWords l false u) (keyWords l false v)
-  unfolding alikeAt same
-  alike-same u v =
-      go (eqb (keyWord l false u 0) (keyWord l false v 0)) (eqb (keyWord l false u 1) (keyWord l false v 1)) (eqb (keyWord l false u 2) (keyWord l false v 2))
-    where
-      go : (a b c : Bool) → (a && (b && c)) ≡ (a && (b && (c && true)))
-      go true true true = refl
-      go true true false = refl
-      go true false c = refl
-      go false b c = refl
+  alike-same : (u v : ℕ) → alikeAt l false u v ≡ samePart (keyPart l u) (keyPart l v)
+  unfolding alikeAt
+  alike-same u v = refl
 
   alike-symbol : (u v : ℕ) → alikeAt l true u v ≡ eqb (keyWord l true u 0) (keyWord l true v 0)
   unfolding alikeAt
-  alike-symbol u v = go (eqb (keyWord l true u 0) (keyWord l true v 0))
-    where
-      go : (a : Bool) → (a && true) ≡ a
-      go true = refl
-      go false = refl
+  alike-symbol u v = refl
 
   pub part-count : (i : ℕ) → i + 2 < partTotal l
       → getD (partCounts l) i 0
-      ≡ below l (λ n. same (partAt (partTable l) i) (openPart l n)) + below l (λ n. isSubtree l n && same (partAt (partTable l) i) (closePart l n))
+      ≡ below l (λ n. samePart (partAt (partTable l) i) (openPart l n)) + below l (λ n. isSubtree l n && samePart (partAt (partTable l) i) (closePart l n))
   unfolding partCounts timesOf keyCount
   part-count i h =
       let n = parts-many in
@@ -241,11 +225,11 @@ module _ (l : List ℕ) where
       v : ℕ
       v = getD (tableKeys l false) i 0
 
-      opens : (m : ℕ) → hits (liveAt l false) (alikeAt l false) v (2 * m) ≡ same (partAt (partTable l) i) (openPart l (m + 1))
-      opens m = rw (live-open l m, part-entry i h, ← open-words l m) (alike-same v (2 * m))
+      opens : (m : ℕ) → hits (liveAt l false) (alikeAt l false) v (2 * m) ≡ samePart (partAt (partTable l) i) (openPart l (m + 1))
+      opens m = rw (live-open l m) (alike-same v (2 * m) ∙ ap₂ samePart (sym (part-entry i h)) (open-key l m))
 
-      closes : (m : ℕ) → hits (liveAt l false) (alikeAt l false) v (2 * m + 1) ≡ (isSubtree l (m + 1) && same (partAt (partTable l) i) (closePart l (m + 1)))
-      closes m = rw (live-close l m, part-entry i h, ← close-words l m) (ap (λ b. isSubtree l (m + 1) && b) (alike-same v (2 * m + 1)))
+      closes : (m : ℕ) → hits (liveAt l false) (alikeAt l false) v (2 * m + 1) ≡ (isSubtree l (m + 1) && samePart (partAt (partTable l) i) (closePart l (m + 1)))
+      closes m = rw (live-close l m) (ap (λ b. isSubtree l (m + 1) && b) (alike-same v (2 * m + 1) ∙ ap₂ samePart (sym (part-entry i h)) (close-key l m)))
 
   pub symbol-count : (i : ℕ) → i < length (symbolTable l)
       → getD (symbolCounts l) i 0 ≡ below l (λ n. (isIdent l n || isLiteral l n) && eqb (getD (symbolTable l) i 0) (wordOf l n 1))

@@ -1,4 +1,4 @@
--- Trees of 13 words one behind the other in a run: their lengths, parts, and what a store into the run does to them.
+-- Trees one behind the other in a run: their lengths, parts, and what a store into the run does to them.
 use Prim.Native.Nat.{ℕ, zero, suc, _+_, _*_, _≤_, _<_}
 use mathlib.Core.Path.{_≡_, refl, sym, ap, _∙_, fun-ext}
 use mathlib.Core.List.{List, [], _∷_, _++_, append-assoc}
@@ -6,9 +6,10 @@ use native.Mathlib.Omega.{arith}
 use lib.ListN.{length, take, drop, getD, length-append, length-drop, take-append-drop}
 use lib.Seq.{take-at, drop-at, drop-append-le, take-append-le, getD-drop, drop-cons, take-take, drop-drop, length-take-le}
 use Rattle.format.specs.Word.{put}
-use Rattle.format.specs.WordList.{wordOf, thirteen}
+use Rattle.format.specs.WordList.{wordOf, treeList}
 use Rattle.format.specs.Builder.{wordIn}
 use Rattle.format.specs.Frames.{Trees, flat}
+use Rattle.format.specs.Width.{treeSize}
 
 -- ---- a store
 
@@ -34,7 +35,7 @@ take-put l vs n at h i =
     let e : n ≤ length (take at l ++ vs) = simp length-append (omega arith) in
     take-append-le n (take at l ++ vs) (drop (at + length vs) l) e ∙ take-append-le n (take at l) vs k ∙ take-take n at l h
 
--- ---- 13 words
+-- ---- the words of a tree
 
 -- the first n values of w
 abbrev tabled : ℕ → (ℕ → ℕ) → List ℕ
@@ -46,15 +47,15 @@ tabled-take zero t h = refl
 tabled-take (suc n) [] h = absurd (omega arith)
 tabled-take (suc n) (x ∷ xs) h = ap (λ r. x ∷ r) (tabled-take n xs (omega arith))
 
--- a tree of a run is 13 words of it
-pub words-at : (l : List ℕ) (n : ℕ) → 13 * n + 13 ≤ length l → thirteen (wordOf l n) ≡ take 13 (drop (13 * n) l)
+-- a tree of a run is so many words of it
+pub words-at : (l : List ℕ) (n : ℕ) → treeSize * n + treeSize ≤ length l → treeList (wordOf l n) ≡ take treeSize (drop (treeSize * n) l)
 words-at l n h =
-    let w : wordOf l n ≡ wordIn (drop (13 * n) l) = fun-ext (λ j. sym (getD-drop (13 * n) l j 0)) in
-    ap (tabled 13) w ∙ tabled-take 13 (drop (13 * n) l) (simp length-drop (omega arith))
+    let w : wordOf l n ≡ wordIn (drop (treeSize * n) l) = fun-ext (λ j. sym (getD-drop (treeSize * n) l j 0)) in
+    ap (tabled treeSize) w ∙ tabled-take treeSize (drop (treeSize * n) l) (simp length-drop (omega arith))
 
 abbrev pub Sized : Trees → Type 0
 Sized [] = Unit {0}
-Sized (t ∷ ts) = (length t ≡ 13) × Sized ts
+Sized (t ∷ ts) = (length t ≡ treeSize) × Sized ts
 
 pub sized-append : (a b : Trees) → Sized a → Sized b → Sized (a ++ b)
 sized-append [] b s u = u
@@ -65,7 +66,7 @@ unfolding flat
 flat-append [] b = refl
 flat-append (t ∷ a) b = ap (λ r. t ++ r) (flat-append a b) ∙ sym (append-assoc t (flat a) (flat b))
 
-pub flat-length : (ts : Trees) → Sized ts → length (flat ts) ≡ 13 * length ts
+pub flat-length : (ts : Trees) → Sized ts → length (flat ts) ≡ treeSize * length ts
 unfolding flat
 flat-length [] s = refl
 flat-length (t ∷ ts) s =
@@ -73,41 +74,41 @@ flat-length (t ∷ ts) s =
     let r = flat-length ts (s .1) in
     simp length-append (omega arith)
 
-pub flat-drop : (n : ℕ) (ts : Trees) → Sized ts → n ≤ length ts → drop (13 * n) (flat ts) ≡ flat (drop n ts)
+pub flat-drop : (n : ℕ) (ts : Trees) → Sized ts → n ≤ length ts → drop (treeSize * n) (flat ts) ≡ flat (drop n ts)
 unfolding flat
 flat-drop zero ts s h = refl
 flat-drop (suc n) [] s h = absurd (omega arith)
 flat-drop (suc n) (t ∷ ts) s h =
-    let e : 13 * suc n ≡ 13 + 13 * n = omega arith in
-    let d = drop-at t (flat ts) 13 (s .0) in
-    rw (e, ← (drop-drop (13 * n) 13 (t ++ flat ts)), d) (flat-drop n ts (s .1) (omega arith))
+    let e : treeSize * suc n ≡ treeSize + treeSize * n = omega arith in
+    let d = drop-at t (flat ts) treeSize (s .0) in
+    rw (e, ← (drop-drop (treeSize * n) treeSize (t ++ flat ts)), d) (flat-drop n ts (s .1) (omega arith))
 
 pub sized-take : (n : ℕ) (ts : Trees) → Sized ts → Sized (take n ts)
 sized-take zero ts s = tt
 sized-take (suc n) [] s = tt
 sized-take (suc n) (t ∷ ts) s = (s .0, sized-take n ts (s .1))
 
-pub sized-at : (n : ℕ) (ts : Trees) → Sized ts → n < length ts → length (getD ts n []) ≡ 13
+pub sized-at : (n : ℕ) (ts : Trees) → Sized ts → n < length ts → length (getD ts n []) ≡ treeSize
 sized-at n [] s h = absurd (omega arith)
 sized-at zero (t ∷ ts) s h = s .0
 sized-at (suc n) (t ∷ ts) s h = sized-at n ts (s .1) (omega arith)
 
-pub flat-take : (n : ℕ) (ts : Trees) → Sized ts → n ≤ length ts → take (13 * n) (flat ts) ≡ flat (take n ts)
+pub flat-take : (n : ℕ) (ts : Trees) → Sized ts → n ≤ length ts → take (treeSize * n) (flat ts) ≡ flat (take n ts)
 flat-take n ts s h =
     let e : flat ts ≡ flat (take n ts) ++ flat (drop n ts) = ap flat (sym (take-append-drop n ts)) ∙ flat-append (take n ts) (drop n ts) in
-    let k : length (flat (take n ts)) ≡ 13 * n = flat-length (take n ts) (sized-take n ts s) ∙ ap (λ x. 13 * x) (length-take-le n ts h) in
-    ap (take (13 * n)) e ∙ take-at (flat (take n ts)) (flat (drop n ts)) (13 * n) k
+    let k : length (flat (take n ts)) ≡ treeSize * n = flat-length (take n ts) (sized-take n ts s) ∙ ap (λ x. treeSize * x) (length-take-le n ts h) in
+    ap (take (treeSize * n)) e ∙ take-at (flat (take n ts)) (flat (drop n ts)) (treeSize * n) k
 
 -- ---- trees at the front of a run
 
-pub tree-at : (l rest : List ℕ) (ts : Trees) → l ≡ flat ts ++ rest → Sized ts → (n : ℕ) → n < length ts → thirteen (wordOf l n) ≡ getD ts n []
+pub tree-at : (l rest : List ℕ) (ts : Trees) → l ≡ flat ts ++ rest → Sized ts → (n : ℕ) → n < length ts → treeList (wordOf l n) ≡ getD ts n []
 unfolding flat
 tree-at l rest ts e s n h =
     let t : List ℕ = getD ts n [] in
     let f = flat-length ts s in
     let k : length l ≡ length (flat ts) + length rest = ap length e ∙ length-append (flat ts) rest in
-    let d : drop (13 * n) l ≡ flat (drop n ts) ++ rest =
-    ap (drop (13 * n)) e ∙ drop-append-le (13 * n) (flat ts) rest (omega arith) ∙ ap (λ x. x ++ rest) (flat-drop n ts s (omega arith)) in
+    let d : drop (treeSize * n) l ≡ flat (drop n ts) ++ rest =
+    ap (drop (treeSize * n)) e ∙ drop-append-le (treeSize * n) (flat ts) rest (omega arith) ∙ ap (λ x. x ++ rest) (flat-drop n ts s (omega arith)) in
     let c : flat (drop n ts) ++ rest ≡ t ++ (flat (drop (suc n) ts) ++ rest) =
     ap (λ x. flat x ++ rest) (drop-cons ts n [] h) ∙ append-assoc t (flat (drop (suc n) ts)) rest in
-    words-at l n (omega arith) ∙ ap (take 13) (d ∙ c) ∙ take-at t (flat (drop (suc n) ts) ++ rest) 13 (sized-at n ts s h)
+    words-at l n (omega arith) ∙ ap (take treeSize) (d ∙ c) ∙ take-at t (flat (drop (suc n) ts) ++ rest) treeSize (sized-at n ts s h)

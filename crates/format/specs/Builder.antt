@@ -9,8 +9,10 @@ use Rattle.format.specs.Verdict.{Verdict, passed, refused, _andThen_, co
 use Rattle.format.specs.Word.{put}
 use Rattle.format.specs.Plain.{endOf, sub}
 use Rattle.format.specs.Buffer.{wordShape}
-use Rattle.format.specs.Root.{WordSpan, rangeFits, fiveWords}
-use Rattle.format.specs.WordList.{wordOf, thirteen, wordFields, listCount, given}
+use Rattle.format.specs.Width.{treeSize, closeAt}
+use Rattle.format.specs.Part.{WordSpan, spanList}
+use Rattle.format.specs.Root.{rangeFits}
+use Rattle.format.specs.WordList.{wordOf, treeList, wordFields, listCount, given}
 use Rattle.format.specs.Holding.{holdingAll}
 use Rattle.format.specs.Writer.{writerVerdict, writerReport, workAfter, outAfter}
 
@@ -24,16 +26,16 @@ pub record Point : Type 0 where
   pub trees : ℕ
   pub opened : ℕ
 
--- the 13 words of a subtree: descendant count, delimiter kind, open and close span
+-- the words of a subtree: descendant count, delimiter kind, open and close span
 abbrev pub subtreeWords : ℕ → ℕ → WordSpan → WordSpan → List ℕ
-subtreeWords n d o c = 3 ∷ n ∷ d ∷ fiveWords o ++ fiveWords c
+subtreeWords n d o c = 3 ∷ n ∷ d ∷ spanList o ++ spanList c
 
--- a leaf as it is given: its 13 words
+-- a leaf as it is given: its words
 abbrev pub wordIn : List ℕ → ℕ → ℕ
 wordIn w j = getD w j 0
 
 abbrev pub leafWords : List ℕ → List ℕ
-leafWords w = thirteen (wordIn w)
+leafWords w = treeList (wordIn w)
 
 -- row 2 of a tree that is pushed; a subtree is no leaf
 abbrev pub leafFits : List ℕ → Bool
@@ -110,11 +112,11 @@ module _ (l : List ℕ) (b : Builder) where
 
   -- a tree behind the others
   abbrev pub addTree : List ℕ → List ℕ
-  addTree t = put l (13 * b .count) t
+  addTree t = put l (treeSize * b .count) t
 
   -- the descendant count and the close span of tree m
   abbrev pub closeTree : WordSpan → ℕ → List ℕ
-  closeTree s m = put (put l (13 * m + 1) ((b .count - (m + 1)) ∷ [])) (13 * m + 8) (fiveWords s)
+  closeTree s m = put (put l (treeSize * m + 1) ((b .count - (m + 1)) ∷ [])) (treeSize * m + closeAt) (spanList s)
 
   abbrev pub closeLast : WordSpan → List ℕ → List ℕ
   closeLast s [] = l
@@ -226,11 +228,11 @@ builderFrom kind o c l ss =
 module _ (l : List ℕ) (b : Builder) where
   -- "the root taken to hold all others"
   unfoldable pub buildList : List ℕ
-  buildList = holdingAll (take (13 * b .count) l)
+  buildList = holdingAll (take (treeSize * b .count) l)
 
   -- the list without tree 0
   unfoldable pub innerList : List ℕ
-  innerList = drop 13 (take (13 * b .count) l)
+  innerList = drop treeSize (take (treeSize * b .count) l)
 
   -- tree 1 is a subtree that holds all behind it
   abbrev pub oneInside : Bool

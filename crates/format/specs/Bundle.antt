@@ -1,5 +1,5 @@
 -- The bundle: a stored buffer with its tables and tree count in one run of bytes, and the check's number that a host receives.
-use Prim.Native.Nat.{ℕ, zero, suc, _+_}
+use Prim.Native.Nat.{ℕ, zero, suc, _+_, _*_}
 use mathlib.Core.Bool.{Bool, _&&_, _||_}
 use mathlib.Core.List.{List, [], _∷_, _++_}
 use lib.ListN.{length, drop}
@@ -7,6 +7,8 @@ use lib.Dec.{leb, eqb}
 use Rattle.format.specs.Test.{if_then_else_}
 use Rattle.format.specs.Verdict.{Verdict, passed, refused}
 use Rattle.format.specs.Word.{byteAt, wordAt}
+use Rattle.format.specs.Width.{partSize}
+use Rattle.format.specs.Part.{partWords, partFrom}
 use Rattle.format.specs.Buffer.{bufferCheck}
 
 pub record Bundle : Type 0 where
@@ -19,6 +21,10 @@ pub data BundleRead : Type 0 where
   bundle : Bundle → BundleRead
   badBundle : BundleRead
 
+-- "`SP` and 12 bytes for one part": with its mark
+abbrev pub partBytes : ℕ
+partBytes = 2 + 4 * partSize
+
 module _ (b : List ℕ) where
   -- "Each record has a two-byte mark": these two bytes at place p
   abbrev pub marked : ℕ → ℕ → ℕ → Bool
@@ -26,19 +32,19 @@ module _ (b : List ℕ) where
 
   -- "`SP` and 12 bytes for one part, `SY` and 4 for one symbol": whether one stands whole at place p, its words, and the place behind it
   abbrev pub isPartRecord : ℕ → Bool
-  isPartRecord p = marked 0x53 0x50 p && leb (p + 14) (length b)
+  isPartRecord p = marked 0x53 0x50 p && leb (p + partBytes) (length b)
 
   abbrev pub isSymbolRecord : ℕ → Bool
   isSymbolRecord p = marked 0x53 0x59 p && leb (p + 6) (length b)
 
   abbrev pub partRecord : ℕ → List ℕ
-  partRecord p = if isPartRecord p then wordAt b (p + 2) ∷ wordAt b (p + 6) ∷ wordAt b (p + 10) ∷ [] else []
+  partRecord p = if isPartRecord p then partWords (partFrom (λ j. wordAt b (p + (2 + 4 * j))) 0) else []
 
   abbrev pub symbolRecord : ℕ → List ℕ
   symbolRecord p = if isSymbolRecord p then wordAt b (p + 2) ∷ [] else []
 
   abbrev pub behind : ℕ → ℕ
-  behind p = if isPartRecord p then p + 14 else p + 6
+  behind p = if isPartRecord p then p + partBytes else p + 6
 
   -- "last `BT`, tree count, byte count, bytes"; "an early end or bytes after the last are bad"
   abbrev pub isLastRecord : ℕ → Bool

@@ -8,10 +8,10 @@ use lib.Dec.{leb, eqb}
 use Rattle.format.specs.Test.{if_then_else_}
 use Rattle.format.specs.Verdict.{Verdict, passed, refused}
 use Rattle.format.specs.Buffer.{wordShape}
-use Rattle.format.specs.Root.{WordSpan}
+use Rattle.format.specs.Part.{WordSpan}
 use Rattle.format.specs.Builder.{Builder, subtreeWords, leafWords, Step, push, openSubtree, closeSubtree, restore, new, builderStep}
 
--- trees in pre-order, each by its 13 words
+-- trees in pre-order, each by its words
 abbrev pub Trees : Type 0
 Trees = List (List ℕ)
 

@@ -7,6 +7,7 @@ use lib.Dec.{ltb}
 use Rattle.format.specs.Test.{if_then_else_}
 use Rattle.format.specs.Reader.{Shape, Reader, Answer, done, none, one, two, refused}
 use Rattle.format.specs.Walk.{Walk, advance, skip, walkStep}
+use Rattle.format.specs.Width.{spanSize, openAt, closeAt}
 use Rattle.format.specs.Buffer.{wordShape, ownReader}
 
 module _ {Tree : Type 0} (S : Shape Tree) (R : Reader Tree) where
@@ -33,7 +34,7 @@ module _ {Tree : Type 0} (S : Shape Tree) (R : Reader Tree) where
 
 -- "The last span of a nonempty subtree is that of its last descendant; of an empty one, its close": of a tree by its words
 abbrev pub endSpan : List ℕ → List ℕ
-endSpan w = if wordShape .isSub w then drop 8 w else take 5 (drop 3 w)
+endSpan w = if wordShape .isSub w then drop closeAt w else take spanSize (drop openAt w)
 
 abbrev pub spanAnswer : Answer (List ℕ) → Answer (List ℕ)
 spanAnswer (one w) = one (endSpan w)
@@ -42,6 +43,6 @@ spanAnswer none = none
 spanAnswer done = none
 spanAnswer (two v w) = none
 
--- five words, or none, or a refusal
+-- a span's words, or none, or a refusal
 abbrev pub lastSpan : List ℕ → ℕ → List ℕ → List ℕ → Walk → Answer (List ℕ)
 lastSpan b k parts symbols w = spanAnswer (lastTree wordShape (ownReader b k parts symbols) w)

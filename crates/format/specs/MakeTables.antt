@@ -1,4 +1,4 @@
--- Tables: what is made of a list of 13 words a tree. Its span parts and its symbols, each distinct one once, with their counts;
+-- Tables: what is made of a list. Its span parts and its symbols, each distinct one once, with their counts;
 -- the rows that refuse the list or the lent runs; what the lent runs hold afterwards.
 use Prim.Native.Nat.{ℕ, _+_, _*_, _-_, _/_, _%_}
 use mathlib.Core.Path.{_≡_}
@@ -8,6 +8,8 @@ use lib.ListN.{length, getD}
 use lib.Dec.{leb, eqb}
 use Rattle.format.specs.Verdict.{Verdict, passed, refused, _andThen_, rule, contents}
 use Rattle.format.specs.Word.{put}
+use Rattle.format.specs.Width.{partSize, spanSize, openAt, closeAt, treeSize}
+use Rattle.format.specs.Part.{Part, partWords, partFrom, samePart}
 use Rattle.format.specs.WordList.{wordOf, listCount, listRows}
 use Rattle.format.specs.Distinct.{tally, news, times}
 use Rattle.format.specs.Order.{ordered}
@@ -21,28 +23,30 @@ keyCount l false = 2 * (listCount l - 1)
 
 -- number v has a key: the tree is an ident or a literal; a part opens every tree and closes a subtree
 unfoldable pub liveAt : List ℕ → Bool → ℕ → Bool
-liveAt l true v = eqb (getD l (13 * (v + 1)) 0) 1 || eqb (getD l (13 * (v + 1)) 0) 2
-liveAt l false v = eqb (v % 2) 0 || eqb (getD l (13 * (v / 2 + 1)) 0) 3
+liveAt l true v = eqb (getD l (treeSize * (v + 1)) 0) 1 || eqb (getD l (treeSize * (v + 1)) 0) 2
+liveAt l false v = eqb (v % 2) 0 || eqb (getD l (treeSize * (v / 2 + 1)) 0) 3
 
--- where the words of key v begin: at word 1 of its tree, or at word 3 and then at word 8
+-- where the words of key v begin: at word 1 of its tree, or where its span does and then its closing one
 unfoldable pub keyPlace : Bool → ℕ → ℕ
-keyPlace true v = 13 * (v + 1) + 1
-keyPlace false v = 13 * (v / 2 + 1) + (3 + 5 * (v % 2))
+keyPlace true v = treeSize * (v + 1) + 1
+keyPlace false v = treeSize * (v / 2 + 1) + (openAt + spanSize * (v % 2))
 
 -- word j of key v
 abbrev pub keyWord : List ℕ → Bool → ℕ → ℕ → ℕ
 keyWord l symbols v j = getD l (keyPlace symbols v + j) 0
 
+abbrev pub keyPart : List ℕ → ℕ → Part
+keyPart l v = partFrom (keyWord l false v) 0
+
 -- a symbol is one word, a part is "file, ast id and context"
 abbrev pub keyWords : List ℕ → Bool → ℕ → List ℕ
 keyWords l true v = keyWord l true v 0 ∷ []
-keyWords l false v = keyWord l false v 0 ∷ keyWord l false v 1 ∷ keyWord l false v 2 ∷ []
+keyWords l false v = partWords (keyPart l v)
 
 -- two keys are the same: their words are
 unfoldable pub alikeAt : List ℕ → Bool → ℕ → ℕ → Bool
-alikeAt l symbols u v =
-    eqb (keyWord l symbols u 0) (keyWord l symbols v 0)
-    && (symbols || eqb (keyWord l symbols u 1) (keyWord l symbols v 1) && eqb (keyWord l symbols u 2) (keyWord l symbols v 2))
+alikeAt l true u v = eqb (keyWord l true u 0) (keyWord l true v 0)
+alikeAt l false u v = samePart (keyPart l u) (keyPart l v)
 
 -- ---- the table, "with more than 15 parts (63 symbols), falling count"
 
@@ -76,7 +80,7 @@ module _ (l : List ℕ) (symbols : Bool) where
 
 -- the root's open and close part
 abbrev pub rootParts : List ℕ → List ℕ
-rootParts l = wordOf l 0 3 ∷ wordOf l 0 4 ∷ wordOf l 0 5 ∷ wordOf l 0 8 ∷ wordOf l 0 9 ∷ wordOf l 0 10 ∷ []
+rootParts l = partWords (partFrom (wordOf l 0) openAt) ++ partWords (partFrom (wordOf l 0) closeAt)
 
 -- the root's two parts are the last two, and counts are "none for the root's two"
 unfoldable pub partTable : List ℕ → List ℕ
@@ -93,7 +97,7 @@ symbolCounts l = tableCounts l true
 
 -- how many parts the table has, the root's two among them
 abbrev pub partTotal : List ℕ → ℕ
-partTotal l = length (partTable l) / 3
+partTotal l = length (partTable l) / partSize
 
 -- ---- the refusals, "as the writer, without 5"
 
@@ -140,22 +144,11 @@ isLiteral l n = eqb (sort l n) 2
 abbrev pub isSubtree : List ℕ → ℕ → Bool
 isSubtree l n = eqb (sort l n) 3
 
-abbrev pub openPart : List ℕ → ℕ → List ℕ
-openPart l n = wordOf l n 3 ∷ wordOf l n 4 ∷ wordOf l n 5 ∷ []
+abbrev pub openPart : List ℕ → ℕ → Part
+openPart l n = partFrom (wordOf l n) openAt
 
-abbrev pub closePart : List ℕ → ℕ → List ℕ
-closePart l n = wordOf l n 8 ∷ wordOf l n 9 ∷ wordOf l n 10 ∷ []
-
--- entry i of a part table
-abbrev pub partAt : List ℕ → ℕ → List ℕ
-partAt t i = getD t (3 * i) 0 ∷ getD t (3 * i + 1) 0 ∷ getD t (3 * i + 2) 0 ∷ []
-
--- whether two lists of words are the same
-unfoldable pub same : List ℕ → List ℕ → Bool
-same [] [] = true
-same [] (y ∷ ys) = false
-same (x ∷ xs) [] = false
-same (x ∷ xs) (y ∷ ys) = eqb x y && same xs ys
+abbrev pub closePart : List ℕ → ℕ → Part
+closePart l n = partFrom (wordOf l n) closeAt
 
 -- the sum of some counts
 unfoldable pub total : List ℕ → ℕ

@@ -10,25 +10,16 @@ use Rattle.format.specs.Word.{byteAt, put}
 use Rattle.format.specs.Span.{Span}
 use Rattle.format.specs.Reader.{Reader}
 use Rattle.format.specs.Check.{Admitted, listing}
+use Rattle.format.specs.Width.{partSize, openAt, treeSize}
+use Rattle.format.specs.Part.{WordSpan, partWords, spanList, indexed}
+use Rattle.format.specs.Fields.{spanFits}
 use Rattle.format.specs.Tables.{partCount}
 use Rattle.format.specs.Buffer.{wordShape, bufferCheck}
 use Rattle.format.specs.Write.{heavyBytes}
 
--- a span by its list words: "file, ast id, context, start, length"
-pub record WordSpan : Type 0 where
-  pub file : ℕ
-  pub ast : ℕ
-  pub context : ℕ
-  pub start : ℕ
-  pub len : ℕ
-
--- "Start + length is at most 4,294,967,295."
+-- "Start + length is at most 4,294,967,295.": of a span that is given by its list words
 abbrev pub rangeFits : WordSpan → Bool
-rangeFits s = leb (s .start + s .len) 4294967295
-
--- the same as it is packed, with the index of its part
-abbrev pub indexed : ℕ → WordSpan → Span
-indexed i s = record { index = i; start = s .start; len = s .len }
+rangeFits s = spanFits (indexed 0 s)
 
 -- ---- what is stored
 
@@ -43,7 +34,7 @@ newSpans b P opening closing = put (put b 0 (heavyBytes 0 (indexed (P - 2) openi
 -- "and the last two parts"
 abbrev pub newParts : List ℕ → WordSpan → WordSpan → List ℕ
 newParts parts opening closing =
-    put parts (length parts - 6) (opening .file ∷ opening .ast ∷ opening .context ∷ closing .file ∷ closing .ast ∷ closing .context ∷ [])
+    put parts (length parts - 2 * partSize) (partWords (opening .part) ++ partWords (closing .part))
 
 -- ---- "Root rewriting: the check's numbers, then 2 at tree 0", and what is lent then
 
@@ -79,19 +70,16 @@ pub record OnlySpans (b new parts table : List ℕ) : Type 0 where
   pub control : byteAt new 12 ≡ byteAt b 12
   pub behind : (i : ℕ) → 25 ≤ i → byteAt new i ≡ byteAt b i
   pub tableSize : length table ≡ length parts
-  pub others : (i : ℕ) → i + 6 < length parts → getD table i 0 ≡ getD parts i 0
+  pub others : (i : ℕ) → i + 2 * partSize < length parts → getD table i 0 ≡ getD parts i 0
 
--- the root's 13 words with another kind, which is word 2; with other spans, which are words 3 to 12
+-- the root's words with another kind, which is word 2; with other spans, which are all from word 3 on
 abbrev pub withKind : ℕ → List ℕ → List ℕ
 withKind d w = set w 2 d
 
-abbrev pub fiveWords : WordSpan → List ℕ
-fiveWords s = s .file ∷ s .ast ∷ s .context ∷ s .start ∷ s .len ∷ []
-
 abbrev pub withSpans : WordSpan → WordSpan → List ℕ → List ℕ
-withSpans opening closing w = take 3 w ++ fiveWords opening ++ fiveWords closing
+withSpans opening closing w = take openAt w ++ spanList opening ++ spanList closing
 
--- the new buffer is admitted too, with as many trees and bytes, the same places and the same trees below the root; w are the 13 words of the new root
+-- the new buffer is admitted too, with as many trees and bytes, the same places and the same trees below the root; w are the words of the new root
 pub record RootOnly (old new : Reader (List ℕ)) (w : List ℕ) : Type 0 where
   pub admitted : Admitted wordShape new
   pub trees : new .trees ≡ old .trees
@@ -99,4 +87,4 @@ pub record RootOnly (old new : Reader (List ℕ)) (w : List ℕ) : Type 0 where
   pub places : (n : ℕ) → n ≤ old .trees → listing wordShape new .place n ≡ listing wordShape old .place n
   pub below : (n : ℕ) → 0 < n → n < old .trees → listing wordShape new .tree n ≡ listing wordShape old .tree n
   pub root : listing wordShape new .tree 0 ≡ w
-  pub size : length w ≡ 13
+  pub size : length w ≡ treeSize

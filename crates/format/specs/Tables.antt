@@ -5,7 +5,9 @@ use mathlib.Core.List.{List, [], _∷_, _++_}
 use lib.ListN.{length, getD}
 use lib.Dec.{ltb, leb, eqb}
 use Rattle.format.specs.Test.{if_then_else_}
+use Rattle.format.specs.Width.{partSize}
 use Rattle.format.specs.Span.{Span}
+use Rattle.format.specs.Part.{WordSpan, partAt, spanList, noSpan}
 use Rattle.format.specs.Tree.{Raw, punct, ident, literal, subtree}
 
 -- what tables say of sizes and indices: all that the check asks of them
@@ -58,33 +60,28 @@ module _ (parts symbols : ℕ) where
   abbrev pub countRules : TableRules
   countRules = record { sized = tablesSized; judged = rowEight }
 
--- ---- a part table, three words a part, and a symbol table
+-- ---- a part table and a symbol table
 
 module _ (parts symbols : List ℕ) where
   abbrev pub partCount : ℕ
-  partCount = length parts / 3
+  partCount = length parts / partSize
 
-  -- "file, ast id, context, start, length"
+  -- a packed span with its part looked up
   abbrev pub spanWords : Span → List ℕ
-  spanWords s =
-      getD parts (3 * s .index) 0 ∷ getD parts (3 * s .index + 1) 0 ∷ getD parts (3 * s .index + 2) 0 ∷ s .start ∷ s .len ∷ []
+  spanWords s = spanList (record { part = partAt parts (s .index); start = s .start; len = s .len })
 
-  -- "zero in a leaf"
-  abbrev pub noSpan : List ℕ
-  noSpan = 0 ∷ 0 ∷ 0 ∷ 0 ∷ 0 ∷ []
-
-  -- the 13 words of a tree: sort, two words of its own, the span or the opening one, the closing one
+  -- the words of a tree: sort, two words of its own, the span or the opening one, the closing one
   unfoldable pub treeWords : Raw → List ℕ
-  treeWords (punct s c x) = 0 ∷ c ∷ x ∷ spanWords s ++ noSpan
-  treeWords (ident s i r) = 1 ∷ getD symbols i 0 ∷ r ∷ spanWords s ++ noSpan
-  treeWords (literal s i k r x) = 2 ∷ getD symbols i 0 ∷ (k + 256 * r + 65536 * x) ∷ spanWords s ++ noSpan
+  treeWords (punct s c x) = 0 ∷ c ∷ x ∷ spanWords s ++ spanList noSpan
+  treeWords (ident s i r) = 1 ∷ getD symbols i 0 ∷ r ∷ spanWords s ++ spanList noSpan
+  treeWords (literal s i k r x) = 2 ∷ getD symbols i 0 ∷ (k + 256 * r + 65536 * x) ∷ spanWords s ++ spanList noSpan
   treeWords (subtree s t n d) = 3 ∷ n ∷ d ∷ spanWords s ++ spanWords t
 
   -- "or part words of 3"
   abbrev pub ownTables : Tables
   ownTables =
       record {
-        sized = eqb (length parts % 3) 0 && tablesSized partCount (length symbols);
+        sized = eqb (length parts % partSize) 0 && tablesSized partCount (length symbols);
         judged = rowEight partCount (length symbols);
         words = λ n t. treeWords t;
       }

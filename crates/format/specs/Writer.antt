@@ -7,6 +7,8 @@ use lib.Dec.{leb, eqb}
 use Rattle.format.specs.Test.{if_then_else_}
 use Rattle.format.specs.Verdict.{Verdict, _andThen_, rule, each, contents, Report, report}
 use Rattle.format.specs.Word.{put}
+use Rattle.format.specs.Width.{openAt, closeAt}
+use Rattle.format.specs.Part.{Part, partFrom, partAt, samePart}
 use Rattle.format.specs.Tree.{Raw}
 use Rattle.format.specs.Tables.{partCount, indexedBelow, ownTables}
 use Rattle.format.specs.Write.{write, workWords}
@@ -18,12 +20,12 @@ find t zero i = i
 find t (suc j) i = if t i then i else find t j (i + 1)
 
 module _ (parts symbols : List ℕ) where
-  abbrev pub isPart : ℕ → ℕ → ℕ → ℕ → Bool
-  isPart f a c i = eqb (getD parts (3 * i) 0) f && eqb (getD parts (3 * i + 1) 0) a && eqb (getD parts (3 * i + 2) 0) c
+  abbrev pub isPart : Part → ℕ → Bool
+  isPart p i = samePart (partAt parts i) p
 
   -- "A part's index is its first place before those two, a symbol's its first place."
-  abbrev pub partIndex : ℕ → ℕ → ℕ → ℕ
-  partIndex f a c = find (isPart f a c) (partCount parts symbols - 2) 0
+  abbrev pub partIndex : Part → ℕ
+  partIndex p = find (isPart p) (partCount parts symbols - 2) 0
 
   abbrev pub symbolIndex : ℕ → ℕ
   symbolIndex y = find (λ i. eqb (getD symbols i 0) y) (length symbols) 0
@@ -34,7 +36,7 @@ module _ (parts symbols : List ℕ) where
     rawOf n =
         let w : ℕ → ℕ = wordOf l n in
         if eqb n 0 then rawFrom (partCount parts symbols - 2) (partCount parts symbols - 1) 0 w else
-        rawFrom (partIndex (w 3) (w 4) (w 5)) (partIndex (w 8) (w 9) (w 10)) (symbolIndex (w 1)) w
+        rawFrom (partIndex (partFrom w openAt)) (partIndex (partFrom w closeAt)) (symbolIndex (w 1)) w
 
     -- trees n to n + j - 1
     unfoldable pub raws : ℕ → ℕ → List Raw
@@ -45,7 +47,7 @@ module _ (parts symbols : List ℕ) where
     abbrev pub present : ℕ → Bool
     present n =
         let w : ℕ → ℕ = wordOf l n in
-        if eqb n 0 then isPart (w 3) (w 4) (w 5) (partCount parts symbols - 2) && isPart (w 8) (w 9) (w 10) (partCount parts symbols - 1) else
+        if eqb n 0 then isPart (partFrom w openAt) (partCount parts symbols - 2) && isPart (partFrom w closeAt) (partCount parts symbols - 1) else
         indexedBelow (partCount parts symbols) (length symbols) (rawOf n)
 
     abbrev pub rowFive : ℕ → Verdict
