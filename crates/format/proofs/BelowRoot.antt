@@ -16,13 +16,12 @@ use Rattle.format.specs.Plain.{Listing, endOf, sub}
 use Rattle.format.specs.Laws.{around, Nested}
 use Rattle.format.specs.Check.{nextOf, kidsOf, treeOf, placeOf, reading, listing, stored, Admitted}
 use Rattle.format.specs.Tree.{Raw, punct, ident, literal, subtree, treeAt}
-use Rattle.format.specs.Tables.{rules, Tables, partIn, symbolIn, indexedBelow, rowEight, tablesSized, spanWords, treeWords, ownTables}
-use Rattle.format.specs.Buffer.{judge, wordShape, reader, ownReader}
+use Rattle.format.specs.Tables.{rules, Tables, Limits, partIn, symbolIn, indexedBelow, rowEight, Mode, limits, spanWords, treeWords, modeTables}
+use Rattle.format.specs.Buffer.{judge, wordShape, reader}
 use Rattle.format.specs.Root.{RootOnly}
-use Rattle.format.specs.Width.{partSize, treeSize}
-use Rattle.format.specs.Part.{spanList, noSpan}
+use Rattle.format.specs.Width.{treeSize}
+use Rattle.format.specs.Part.{partAt, spanList, noSpan}
 use Rattle.format.proofs.Each.{and-left, and-right, and₃}
-use Rattle.format.proofs.PartLaw.{entry-same}
 use Rattle.format.proofs.TreeBounds.{Ended, tree-ended}
 use Rattle.format.proofs.CheckLaw.{next-place}
 use Rattle.format.proofs.Reading.{Clean, clean-read, each-clean}
@@ -63,28 +62,40 @@ module _ {Tree : Type 0} (S : Shape Tree) (L M : Listing Tree) (size : M .k ≡ 
             omega arith;
       }
 
--- ---- two part tables that differ in the last two parts alone: the words of a tree below the root
+-- old and new buffer and tables: all that lies below the root is as it was
+pub record Kept (b c : List ℕ) (M M′ : Mode) : Type 0 where
+  pub size : length c ≡ length b
+  pub bytes : (i : ℕ) → 33 ≤ i → byteAt c i ≡ byteAt b i
+  pub sized : M′ .sized ≡ M .sized
+  pub limit : M′ .limit ≡ M .limit
+  pub root : M′ .root ≡ M .root
+  pub symbols : M′ .symbols ≡ M .symbols
+  pub entries : (i : ℕ) → i < M .limit → partAt (M′ .parts) i ≡ partAt (M .parts) i
 
-module _ (parts parts′ symbols : List ℕ) (entries : (i : ℕ) → i + 2 * partSize < length parts → getD parts′ i 0 ≡ getD parts i 0) where
-  span-words : (s : Span) → partIn (length parts / partSize) (length symbols) s ≡ true → spanWords parts′ symbols s ≡ spanWords parts symbols s
+-- ---- the words of a tree below the root
+
+module _ (b c : List ℕ) (M M′ : Mode) (kept : Kept b c M M′) (n : ℕ) (z : eqb n 0 ≡ false) where
+  abbrev N : Limits
+  N = limits M
+
+  span-words : (s : Span) → partIn N s ≡ true → spanWords M′ n s ≡ spanWords M n s
   span-words s h =
-      let l = ltb-true (s .index + 2) (length parts / partSize) h in
-      let e = entry-same parts′ parts (s .index) (s .index) (λ j k. entries (partSize * s .index + j) (omega arith)) in
-      ap (λ p. spanList (record { part = p; start = s .start; len = s .len })) e
+      let e = kept .entries (s .index) (ltb-true (s .index) (M .limit) h) in
+      simp z (ap (λ p. spanList (record { part = p; start = s .start; len = s .len })) e)
 
-  pub words-kept : (t : Raw) → indexedBelow (length parts / partSize) (length symbols) t ≡ true → treeWords parts′ symbols t ≡ treeWords parts symbols t
+  pub words-kept : (t : Raw) → indexedBelow N t ≡ true → treeWords M′ n t ≡ treeWords M n t
   unfolding treeWords
   words-kept (punct s c x) h = ap (λ w. 0 ∷ c ∷ x ∷ w ++ spanList noSpan) (span-words s h)
   words-kept (ident s i r) h =
-      let e = span-words s (and-left (partIn (length parts / partSize) (length symbols) s) (symbolIn (length parts / partSize) (length symbols) i) h) in
-      ap (λ w. 1 ∷ getD symbols i 0 ∷ r ∷ w ++ spanList noSpan) e
+      let e = span-words s (and-left (partIn N s) (symbolIn N i) h) in
+      λ x. 1 ∷ getD (kept .symbols x) i 0 ∷ r ∷ e x ++ spanList noSpan
   words-kept (literal s i k r x) h =
-      let e = span-words s (and-left (partIn (length parts / partSize) (length symbols) s) (symbolIn (length parts / partSize) (length symbols) i) h) in
-      ap (λ w. 2 ∷ getD symbols i 0 ∷ (k + 256 * r + 65536 * x) ∷ w ++ spanList noSpan) e
-  words-kept (subtree s t n d) h =
-      let e = span-words s (and-left (partIn (length parts / partSize) (length symbols) s) (partIn (length parts / partSize) (length symbols) t) h) in
-      let f = span-words t (and-right (partIn (length parts / partSize) (length symbols) s) (partIn (length parts / partSize) (length symbols) t) h) in
-      λ i. 3 ∷ n ∷ d ∷ e i ++ f i
+      let e = span-words s (and-left (partIn N s) (symbolIn N i) h) in
+      λ y. 2 ∷ getD (kept .symbols y) i 0 ∷ (k + 256 * r + 65536 * x) ∷ e y ++ spanList noSpan
+  words-kept (subtree s t k d) h =
+      let e = span-words s (and-left (partIn N s) (partIn N t) h) in
+      let f = span-words t (and-right (partIn N s) (partIn N t) h) in
+      λ i. 3 ∷ k ∷ d ∷ e i ++ f i
 
 -- ---- the places in an admitted buffer: tree 1 begins at byte 33, and no later tree before it
 
@@ -118,19 +129,15 @@ pub eight : (x : Bool) → _≡_ {A = ℕ} (if x then 0 else 8) 0 → x ≡ true
 eight true e = refl
 eight false e = absurd (omega arith)
 
--- old and new buffer and part table: all that lies below the root is as it was
-pub record Kept (b c parts parts′ : List ℕ) : Type 0 where
-  pub size : length c ≡ length b
-  pub bytes : (i : ℕ) → 33 ≤ i → byteAt c i ≡ byteAt b i
-  pub table : length parts′ ≡ length parts
-  pub entries : (i : ℕ) → i + 2 * partSize < length parts → getD parts′ i 0 ≡ getD parts i 0
-
-module _ (b c : List ℕ) (k : ℕ) (parts parts′ symbols : List ℕ) (kept : Kept b c parts parts′) where
+module _ (b c : List ℕ) (k : ℕ) (M M′ : Mode) (kept : Kept b c M M′) where
   abbrev T : Tables
-  T = ownTables parts symbols
+  T = modeTables M
 
   abbrev T′ : Tables
-  T′ = ownTables parts′ symbols
+  T′ = modeTables M′
+
+  pub eight-kept : (n : ℕ) (t : Raw) → rowEight (limits M′) n t ≡ rowEight (limits M) n t
+  eight-kept n t = λ i. rowEight (record { limit = kept .limit i; root = kept .root i; symbols = length (kept .symbols i) }) n t
 
   abbrev R : Reader (List ℕ)
   R = reader b k T
@@ -142,16 +149,15 @@ module _ (b c : List ℕ) (k : ℕ) (parts parts′ symbols : List ℕ) (kept : 
       → Clean (T′ .words) (rules T′) n p (treeAt c p) w next kids
   clean-kept n p w next kids z h C =
       let t = C .raw in
-      let e = kept .table in
       let r8 = C .row8 in
-      let i : indexedBelow (length parts / partSize) (length symbols) t ≡ true = eight (indexedBelow (length parts / partSize) (length symbols) t) (simp z at r8) in
+      let i : indexedBelow (limits M) t ≡ true = eight (indexedBelow (limits M) t) (simp z at r8) in
       record {
         raw = t;
         stands = tree-from c b p (kept .size) (λ i l. kept .bytes i (omega arith)) ∙ C .stands;
         form = C .form;
         row2 = C .row2;
-        row8 = ap (λ m. rowEight (m / partSize) (length symbols) n t) e ∙ r8;
-        shown = C .shown ∙ sym (words-kept parts parts′ symbols (kept .entries) t i);
+        row8 = eight-kept n t ∙ r8;
+        shown = C .shown ∙ sym (words-kept b c M M′ kept n z t i);
       }
 
   module _ (ad : Admitted wordShape R) where
@@ -205,7 +211,7 @@ module _ (b c : List ℕ) (k : ℕ) (parts parts′ symbols : List ℕ) (kept : 
       admitted =
           let h = some b k T ad in
           record {
-            sized = ap (λ m. leb 1 k && leb k 1048576 && (eqb (m % partSize) 0 && tablesSized (m / partSize) (length symbols))) (kept .table) ∙ ad .sized;
+            sized = ap (λ x. leb 1 k && leb k 1048576 && x) (kept .sized) ∙ ad .sized;
             readable = readable;
             whole = place-kept k (omega arith) ∙ ad .whole ∙ sym (kept .size);
             rooted = sub-kept 0 h ∙ ad .rooted;
@@ -222,8 +228,7 @@ module _ (b c : List ℕ) (k : ℕ) (parts parts′ symbols : List ℕ) (kept : 
                 rw (e, f, g, j) a;
           }
 
-      pub root-only : RootOnly (ownReader b k parts symbols) (ownReader c k parts′ symbols) w
-      unfolding ownReader
+      pub root-only : RootOnly R R′ w
       root-only =
           record {
             admitted = admitted;

@@ -12,7 +12,7 @@ use Rattle.format.specs.Verdict.{passed, _andThen_, rule, each}
 use Rattle.format.specs.Plain.{Listing, endOf, sub}
 use Rattle.format.specs.Nest.{nest}
 use Rattle.format.specs.Buffer.{wordShape}
-use Rattle.format.specs.Tables.{ownTables}
+use Rattle.format.specs.Tables.{ownMode, ownTables}
 use Rattle.format.specs.WordList.{wordOf, treeList, wordFields, listCount, given, listSized, rowTwo, listRules, listRows}
 use Rattle.format.specs.Writer.{rowFive, listVerdict}
 use Rattle.format.specs.Holding.{holdingAll}
@@ -94,7 +94,7 @@ module _ (t : List ℕ) (xs : Trees) (f : Fit t) (q : isSub t ≡ true) (c : cou
 
 -- rows 1 to 4 are silent: what is left of the writer's first five
 pub five-left : (parts symbols l : List ℕ) → listRows l ≡ passed
-    → listVerdict parts symbols l ≡ (rule (ownTables parts symbols .sized) 1 0 andThen each (rowFive parts symbols l) (listCount l))
+    → listVerdict parts symbols l ≡ (rule (ownTables parts symbols .sized) 1 0 andThen each (rowFive (ownMode parts symbols) l) (listCount l))
 unfolding listVerdict
 five-left parts symbols l e =
     let a = both (rule (listSized l) 1 0) (listRules l) e in
@@ -262,12 +262,12 @@ module _ (kind : ℕ) (o c : WordSpan) (l : List ℕ) (ss : List Step) (ok : new
       -- rows 2 to 4 are silent, and row 1 on the list: only the tables' sizes, row 5 and row 6 can refuse
       pub run-verdict : listVerdict parts symbols (modelList (modelFrom kind o c l ss))
           ≡ (rule (ownTables parts symbols .sized) 1 0 andThen
-          each (rowFive parts symbols (modelList (modelFrom kind o c l ss))) (listCount (modelList (modelFrom kind o c l ss))))
+          each (rowFive (ownMode parts symbols) (modelList (modelFrom kind o c l ss))) (listCount (modelList (modelFrom kind o c l ss))))
       run-verdict = five-left parts symbols (modelList M) (build-rows (M .root) B L shut)
 
       pub run-skip-verdict : listVerdict parts symbols (modelSkip (modelFrom kind o c l ss))
           ≡ (rule (ownTables parts symbols .sized) 1 0 andThen
-          each (rowFive parts symbols (modelSkip (modelFrom kind o c l ss))) (listCount (modelSkip (modelFrom kind o c l ss))))
+          each (rowFive (ownMode parts symbols) (modelSkip (modelFrom kind o c l ss))) (listCount (modelSkip (modelFrom kind o c l ss))))
       run-skip-verdict = five-left parts symbols (modelSkip M) (skip-rows (M .root) B L shut)
 
     pub run-rows : listRows (modelList (modelFrom kind o c l ss)) ≡ passed

@@ -7,11 +7,11 @@ use native.Mathlib.Omega.{arith}
 use borrow.Author.Tests.{le-ltb, ltb-true, ltb-false, eq-eqb, ne-eqb, eqb-true, eqb-false}
 use lib.Dec.{eqb, ltb}
 use lib.ListN.{length, getD}
-use Rattle.format.specs.Tables.{partCount, indexedBelow}
+use Rattle.format.specs.Tables.{Limits, Mode, limits, indexedBelow}
 use Rattle.format.specs.WordList.{wordOf, rawFrom}
 use Rattle.format.specs.Writer.{find, isPart, partIndex, symbolIndex, present}
 use Rattle.format.specs.Width.{openAt, closeAt}
-use Rattle.format.specs.Part.{Part, partFrom, partAt}
+use Rattle.format.specs.Part.{Part, partFrom, samePart, partAt}
 use Rattle.format.proofs.Each.{true-false}
 use Rattle.format.proofs.PartLaw.{same-part, part-same}
 
@@ -84,116 +84,107 @@ none-find t j i a = go (ltb (find t j i) (i + j)) refl
 
 -- ---- parts and symbols
 
-pub part-is : (parts symbols : List ℕ) (p : Part) (i : ℕ) → isPart parts symbols p i ≡ true → partAt parts i ≡ p
-part-is parts symbols p i = same-part (partAt parts i) p
-
-is-part : (parts symbols : List ℕ) (p : Part) (i : ℕ) → partAt parts i ≡ p → isPart parts symbols p i ≡ true
-is-part parts symbols p i = part-same (partAt parts i) p
-
 -- which of a tree's indices is outside: a subtree alone has a close part, an ident or a literal a symbol
-module _ (P Y o c y : ℕ) (w : ℕ → ℕ) where
+module _ (N : Limits) (o c y : ℕ) (w : ℕ → ℕ) where
   data Outside : Type 0 where
-    opens : P ≤ o + 2 → Outside
-    closes : 3 ≤ w 0 → P ≤ c + 2 → Outside
-    symbol : 1 ≤ w 0 → w 0 ≤ 2 → Y ≤ y → Outside
+    opens : N .limit ≤ o → Outside
+    closes : 3 ≤ w 0 → N .limit ≤ c → Outside
+    symbol : 1 ≤ w 0 → w 0 ≤ 2 → N .symbols ≤ y → Outside
 
   both-in : (a b : Bool) {A : Type 0} → (a ≡ false → A) → (b ≡ false → A) → (a && b) ≡ false → A
   both-in true b f g e = g e
   both-in false b f g e = f refl
 
-  outside-of : indexedBelow P Y (rawFrom o c y w) ≡ false → Outside
+  outside-of : indexedBelow N (rawFrom o c y w) ≡ false → Outside
   unfolding rawFrom
   outside-of h = go _ _ _ refl refl refl
     where
       go : (x₀ x₁ x₂ : Bool) → eqb (w 0) 0 ≡ x₀ → eqb (w 0) 1 ≡ x₁ → eqb (w 0) 2 ≡ x₂ → Outside
       go true x₁ x₂ e₀ e₁ e₂ =
-          let h′ : ltb (o + 2) P ≡ false = simp e₀ at h in
-          opens (ltb-false (o + 2) P h′)
+          let h′ : ltb o (N .limit) ≡ false = simp e₀ at h in
+          opens (ltb-false o (N .limit) h′)
       go false true x₂ e₀ e₁ e₂ =
-          let h′ : (ltb (o + 2) P && ltb y Y) ≡ false = simp (e₀, e₁) at h in
+          let h′ : (ltb o (N .limit) && ltb y (N .symbols)) ≡ false = simp (e₀, e₁) at h in
           let q = eqb-true (w 0) 1 e₁ in
-          both-in (ltb (o + 2) P) (ltb y Y) (λ f. opens (ltb-false (o + 2) P f)) (λ f. symbol (omega arith) (omega arith) (ltb-false y Y f)) h′
+          both-in (ltb o (N .limit)) (ltb y (N .symbols)) (λ f. opens (ltb-false o (N .limit) f)) (λ f. symbol (omega arith) (omega arith) (ltb-false y (N .symbols) f)) h′
       go false false true e₀ e₁ e₂ =
-          let h′ : (ltb (o + 2) P && ltb y Y) ≡ false = simp (e₀, e₁, e₂) at h in
+          let h′ : (ltb o (N .limit) && ltb y (N .symbols)) ≡ false = simp (e₀, e₁, e₂) at h in
           let q = eqb-true (w 0) 2 e₂ in
-          both-in (ltb (o + 2) P) (ltb y Y) (λ f. opens (ltb-false (o + 2) P f)) (λ f. symbol (omega arith) (omega arith) (ltb-false y Y f)) h′
+          both-in (ltb o (N .limit)) (ltb y (N .symbols)) (λ f. opens (ltb-false o (N .limit) f)) (λ f. symbol (omega arith) (omega arith) (ltb-false y (N .symbols) f)) h′
       go false false false e₀ e₁ e₂ =
-          let h′ : (ltb (o + 2) P && ltb (c + 2) P) ≡ false = simp (e₀, e₁, e₂) at h in
+          let h′ : (ltb o (N .limit) && ltb c (N .limit)) ≡ false = simp (e₀, e₁, e₂) at h in
           let d₀ = eqb-false (w 0) 0 e₀ in
           let d₁ = eqb-false (w 0) 1 e₁ in
           let d₂ = eqb-false (w 0) 2 e₂ in
-          both-in (ltb (o + 2) P) (ltb (c + 2) P) (λ f. opens (ltb-false (o + 2) P f)) (λ f. closes (omega arith) (ltb-false (c + 2) P f)) h′
+          both-in (ltb o (N .limit)) (ltb c (N .limit)) (λ f. opens (ltb-false o (N .limit) f)) (λ f. closes (omega arith) (ltb-false c (N .limit) f)) h′
 
   and-no : (a : Bool) → (a && false) ≡ false
   and-no true = refl
   and-no false = refl
 
-  outside-not : Outside → indexedBelow P Y (rawFrom o c y w) ≡ false
+  outside-not : Outside → indexedBelow N (rawFrom o c y w) ≡ false
   unfolding rawFrom
   outside-not a = go _ _ _ refl refl refl a
     where
-      go : (x₀ x₁ x₂ : Bool) → eqb (w 0) 0 ≡ x₀ → eqb (w 0) 1 ≡ x₁ → eqb (w 0) 2 ≡ x₂ → Outside → indexedBelow P Y (rawFrom o c y w) ≡ false
-      go true x₁ x₂ e₀ e₁ e₂ (opens h) = let t = le-ltb (o + 2) P h in simp (e₀, t)
+      go : (x₀ x₁ x₂ : Bool) → eqb (w 0) 0 ≡ x₀ → eqb (w 0) 1 ≡ x₁ → eqb (w 0) 2 ≡ x₂ → Outside → indexedBelow N (rawFrom o c y w) ≡ false
+      go true x₁ x₂ e₀ e₁ e₂ (opens h) = let t = le-ltb o (N .limit) h in simp (e₀, t)
       go true x₁ x₂ e₀ e₁ e₂ (closes f h) = let q = eqb-true (w 0) 0 e₀ in absurd (omega arith)
       go true x₁ x₂ e₀ e₁ e₂ (symbol f g h) = let q = eqb-true (w 0) 0 e₀ in absurd (omega arith)
-      go false true x₂ e₀ e₁ e₂ (opens h) = let t = le-ltb (o + 2) P h in simp (e₀, e₁, t)
+      go false true x₂ e₀ e₁ e₂ (opens h) = let t = le-ltb o (N .limit) h in simp (e₀, e₁, t)
       go false true x₂ e₀ e₁ e₂ (closes f h) = let q = eqb-true (w 0) 1 e₁ in absurd (omega arith)
-      go false true x₂ e₀ e₁ e₂ (symbol f g h) = let t = le-ltb y Y h in simp (e₀, e₁, t) (and-no (ltb (o + 2) P))
-      go false false true e₀ e₁ e₂ (opens h) = let t = le-ltb (o + 2) P h in simp (e₀, e₁, e₂, t)
+      go false true x₂ e₀ e₁ e₂ (symbol f g h) = let t = le-ltb y (N .symbols) h in simp (e₀, e₁, t) (and-no (ltb o (N .limit)))
+      go false false true e₀ e₁ e₂ (opens h) = let t = le-ltb o (N .limit) h in simp (e₀, e₁, e₂, t)
       go false false true e₀ e₁ e₂ (closes f h) = let q = eqb-true (w 0) 2 e₂ in absurd (omega arith)
-      go false false true e₀ e₁ e₂ (symbol f g h) = let t = le-ltb y Y h in simp (e₀, e₁, e₂, t) (and-no (ltb (o + 2) P))
-      go false false false e₀ e₁ e₂ (opens h) = let t = le-ltb (o + 2) P h in simp (e₀, e₁, e₂, t)
-      go false false false e₀ e₁ e₂ (closes f h) = let t = le-ltb (c + 2) P h in simp (e₀, e₁, e₂, t) (and-no (ltb (o + 2) P))
+      go false false true e₀ e₁ e₂ (symbol f g h) = let t = le-ltb y (N .symbols) h in simp (e₀, e₁, e₂, t) (and-no (ltb o (N .limit)))
+      go false false false e₀ e₁ e₂ (opens h) = let t = le-ltb o (N .limit) h in simp (e₀, e₁, e₂, t)
+      go false false false e₀ e₁ e₂ (closes f h) = let t = le-ltb c (N .limit) h in simp (e₀, e₁, e₂, t) (and-no (ltb o (N .limit)))
       go false false false e₀ e₁ e₂ (symbol f g h) =
           let d₀ = eqb-false (w 0) 0 e₀ in
           let d₁ = eqb-false (w 0) 1 e₁ in
           let d₂ = eqb-false (w 0) 2 e₂ in
           absurd (omega arith)
 
-module _ (parts symbols : List ℕ) where
-  abbrev P : ℕ
-  P = partCount parts symbols
-
-  -- stands at no place before the last two; at no place
+module _ (M : Mode) where
+  -- stands at no place below the limit; at no place
   abbrev pub NoPart : Part → Type 0
-  NoPart p = (i : ℕ) → i + 2 < P → partAt parts i ≡ p → ⊥
+  NoPart p = (i : ℕ) → i < M .limit → partAt (M .parts) i ≡ p → ⊥
 
   abbrev pub NoSymbol : ℕ → Type 0
-  NoSymbol y = (i : ℕ) → i < length symbols → getD symbols i 0 ≡ y → ⊥
+  NoSymbol y = (i : ℕ) → i < length (M .symbols) → getD (M .symbols) i 0 ≡ y → ⊥
 
   -- a part or symbol that is found stands there
-  pub part-found : (p : Part) → partIndex parts symbols p + 2 < P → partAt parts (partIndex parts symbols p) ≡ p
-  part-found p h = part-is parts symbols p (partIndex parts symbols p) (find-at (isPart parts symbols p) (P - 2) 0 (omega arith))
+  pub part-found : (p : Part) → partIndex M p < M .limit → partAt (M .parts) (partIndex M p) ≡ p
+  part-found p h = same-part (partAt (M .parts) (partIndex M p)) p (find-at (isPart M p) (M .limit) 0 (omega arith))
 
-  pub symbol-found : (y : ℕ) → symbolIndex parts symbols y < length symbols → getD symbols (symbolIndex parts symbols y) 0 ≡ y
-  symbol-found y h = eqb-true (getD symbols (symbolIndex parts symbols y) 0) y (find-at (λ i. eqb (getD symbols i 0) y) (length symbols) 0 (omega arith))
+  pub symbol-found : (y : ℕ) → symbolIndex M y < length (M .symbols) → getD (M .symbols) (symbolIndex M y) 0 ≡ y
+  symbol-found y h = eqb-true (getD (M .symbols) (symbolIndex M y) 0) y (find-at (λ i. eqb (getD (M .symbols) i 0) y) (length (M .symbols)) 0 (omega arith))
 
-  pub part-first : (p : Part) (i : ℕ) → i + 2 < P → partAt parts i ≡ p → partIndex parts symbols p ≤ i
-  part-first p i h e = find-first (isPart parts symbols p) (P - 2) 0 i (is-part parts symbols p i e) (omega arith) (omega arith)
+  pub part-first : (p : Part) (i : ℕ) → i < M .limit → partAt (M .parts) i ≡ p → partIndex M p ≤ i
+  part-first p i h e = find-first (isPart M p) (M .limit) 0 i (part-same (partAt (M .parts) i) p e) (omega arith) (omega arith)
 
-  pub symbol-first : (y i : ℕ) → i < length symbols → getD symbols i 0 ≡ y → symbolIndex parts symbols y ≤ i
-  symbol-first y i h e = find-first (λ i. eqb (getD symbols i 0) y) (length symbols) 0 i (eq-eqb (getD symbols i 0) y e) (omega arith) (omega arith)
+  pub symbol-first : (y i : ℕ) → i < length (M .symbols) → getD (M .symbols) i 0 ≡ y → symbolIndex M y ≤ i
+  symbol-first y i h e = find-first (λ i. eqb (getD (M .symbols) i 0) y) (length (M .symbols)) 0 i (eq-eqb (getD (M .symbols) i 0) y e) (omega arith) (omega arith)
 
   -- an index past them is given exactly where there is none
-  pub part-none : (p : Part) → P ≤ partIndex parts symbols p + 2 → NoPart p
+  pub part-none : (p : Part) → M .limit ≤ partIndex M p → NoPart p
   part-none p h i l e = let k = part-first p i l e in omega arith
 
-  pub none-part : (p : Part) → NoPart p → P ≤ partIndex parts symbols p + 2
-  none-part p none = go (ltb (partIndex parts symbols p + 2) P) refl
+  pub none-part : (p : Part) → NoPart p → M .limit ≤ partIndex M p
+  none-part p none = go (ltb (partIndex M p) (M .limit)) refl
     where
-      go : (x : Bool) → ltb (partIndex parts symbols p + 2) P ≡ x → P ≤ partIndex parts symbols p + 2
-      go true e = let l = ltb-true (partIndex parts symbols p + 2) P e in absurd (none (partIndex parts symbols p) l (part-found p l))
-      go false e = ltb-false (partIndex parts symbols p + 2) P e
+      go : (x : Bool) → ltb (partIndex M p) (M .limit) ≡ x → M .limit ≤ partIndex M p
+      go true e = let l = ltb-true (partIndex M p) (M .limit) e in absurd (none (partIndex M p) l (part-found p l))
+      go false e = ltb-false (partIndex M p) (M .limit) e
 
-  pub symbol-none : (y : ℕ) → length symbols ≤ symbolIndex parts symbols y → NoSymbol y
+  pub symbol-none : (y : ℕ) → length (M .symbols) ≤ symbolIndex M y → NoSymbol y
   symbol-none y h i l e = let k = symbol-first y i l e in omega arith
 
-  pub none-symbol : (y : ℕ) → NoSymbol y → length symbols ≤ symbolIndex parts symbols y
-  none-symbol y none = go (ltb (symbolIndex parts symbols y) (length symbols)) refl
+  pub none-symbol : (y : ℕ) → NoSymbol y → length (M .symbols) ≤ symbolIndex M y
+  none-symbol y none = go (ltb (symbolIndex M y) (length (M .symbols))) refl
     where
-      go : (x : Bool) → ltb (symbolIndex parts symbols y) (length symbols) ≡ x → length symbols ≤ symbolIndex parts symbols y
-      go true e = let l = ltb-true (symbolIndex parts symbols y) (length symbols) e in absurd (none (symbolIndex parts symbols y) l (symbol-found y l))
-      go false e = ltb-false (symbolIndex parts symbols y) (length symbols) e
+      go : (x : Bool) → ltb (symbolIndex M y) (length (M .symbols)) ≡ x → length (M .symbols) ≤ symbolIndex M y
+      go true e = let l = ltb-true (symbolIndex M y) (length (M .symbols)) e in absurd (none (symbolIndex M y) l (symbol-found y l))
+      go false e = ltb-false (symbolIndex M y) (length (M .symbols)) e
 
   -- ---- row 5
 
@@ -203,7 +194,7 @@ module _ (parts symbols : List ℕ) where
 
     -- tree n lacks its part or symbol; "or the last two parts are not the root's"
     pub data Absent : ℕ → Type 0 where
-      root : (partAt parts (P - 2) ≡ partFrom (w 0) openAt → partAt parts (P - 1) ≡ partFrom (w 0) closeAt → ⊥) → Absent 0
+      root : (partAt (M .pair) 0 ≡ partFrom (w 0) openAt → partAt (M .pair) 1 ≡ partFrom (w 0) closeAt → ⊥) → Absent 0
       openPart : (n : ℕ) → 1 ≤ n → NoPart (partFrom (w n) openAt) → Absent n
       -- of a subtree
       closePart : (n : ℕ) → 1 ≤ n → 3 ≤ w n 0 → NoPart (partFrom (w n) closeAt) → Absent n
@@ -211,48 +202,48 @@ module _ (parts symbols : List ℕ) where
       ownSymbol : (n : ℕ) → 1 ≤ n → 1 ≤ w n 0 → w n 0 ≤ 2 → NoSymbol (w n 1) → Absent n
 
     abbrev o : ℕ → ℕ
-    o n = partIndex parts symbols (partFrom (w n) openAt)
+    o n = partIndex M (partFrom (w n) openAt)
 
     abbrev c : ℕ → ℕ
-    c n = partIndex parts symbols (partFrom (w n) closeAt)
+    c n = partIndex M (partFrom (w n) closeAt)
 
     abbrev y : ℕ → ℕ
-    y n = symbolIndex parts symbols (w n 1)
+    y n = symbolIndex M (w n 1)
 
-    below-absent : (n : ℕ) → 1 ≤ n → Outside P (length symbols) (o n) (c n) (y n) (w n) → Absent n
+    below-absent : (n : ℕ) → 1 ≤ n → Outside (limits M) (o n) (c n) (y n) (w n) → Absent n
     below-absent n h (opens a) = openPart n h (part-none (partFrom (w n) openAt) a)
     below-absent n h (closes s a) = closePart n h s (part-none (partFrom (w n) closeAt) a)
     below-absent n h (symbol s t a) = ownSymbol n h s t (symbol-none (w n 1) a)
 
-    pub absent-of : (n : ℕ) → present parts symbols l n ≡ false → Absent n
+    pub absent-of : (n : ℕ) → present M l n ≡ false → Absent n
     absent-of n h = go (eqb n 0) refl
       where
         go : (z : Bool) → eqb n 0 ≡ z → Absent n
         go true z =
             let q = eqb-true n 0 z in
-            let h₀ : present parts symbols l 0 ≡ false = rw q at h in
+            let h₀ : present M l 0 ≡ false = rw q at h in
             subst Absent (sym q)
             (root (λ a b.
-            let x = is-part parts symbols (partFrom (w 0) openAt) (P - 2) a in
-            let y = is-part parts symbols (partFrom (w 0) closeAt) (P - 1) b in
+            let x = part-same (partAt (M .pair) 0) (partFrom (w 0) openAt) a in
+            let y = part-same (partAt (M .pair) 1) (partFrom (w 0) closeAt) b in
             let h₁ : true ≡ false = simp (x, y) at h₀ in
             true-false true refl h₁))
         go false z =
             let q = eqb-false n 0 z in
-            let h′ : indexedBelow P (length symbols) (rawFrom (o n) (c n) (y n) (w n)) ≡ false = simp z at h in
-            below-absent n (omega arith) (outside-of P (length symbols) (o n) (c n) (y n) (w n) h′)
+            let h′ : indexedBelow (limits M) (rawFrom (o n) (c n) (y n) (w n)) ≡ false = simp z at h in
+            below-absent n (omega arith) (outside-of (limits M) (o n) (c n) (y n) (w n) h′)
 
-    not-present : (n : ℕ) → 1 ≤ n → Outside P (length symbols) (o n) (c n) (y n) (w n) → present parts symbols l n ≡ false
+    not-present : (n : ℕ) → 1 ≤ n → Outside (limits M) (o n) (c n) (y n) (w n) → present M l n ≡ false
     not-present n h a =
         let z = ne-eqb n 0 (λ e. omega arith) in
-        simp z (outside-not P (length symbols) (o n) (c n) (y n) (w n) a)
+        simp z (outside-not (limits M) (o n) (c n) (y n) (w n) a)
 
-    pub absent-not : (n : ℕ) → Absent n → present parts symbols l n ≡ false
+    pub absent-not : (n : ℕ) → Absent n → present M l n ≡ false
     absent-not n (root f) = go _ _ refl refl
       where
-        go : (a b : Bool) → isPart parts symbols (partFrom (w 0) openAt) (P - 2) ≡ a → isPart parts symbols (partFrom (w 0) closeAt) (P - 1) ≡ b
-            → present parts symbols l 0 ≡ false
-        go true true x y = absurd (f (part-is parts symbols (partFrom (w 0) openAt) (P - 2) x) (part-is parts symbols (partFrom (w 0) closeAt) (P - 1) y))
+        go : (a b : Bool) → samePart (partAt (M .pair) 0) (partFrom (w 0) openAt) ≡ a → samePart (partAt (M .pair) 1) (partFrom (w 0) closeAt) ≡ b
+            → present M l 0 ≡ false
+        go true true x y = absurd (f (same-part (partAt (M .pair) 0) (partFrom (w 0) openAt) x) (same-part (partAt (M .pair) 1) (partFrom (w 0) closeAt) y))
         go true false x y = simp (x, y)
         go false b x y = simp x
     absent-not n (openPart m h a) = not-present n h (opens (none-part (partFrom (w n) openAt) a))

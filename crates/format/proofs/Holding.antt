@@ -13,7 +13,7 @@ use Rattle.format.specs.Verdict.{Verdict, passed, refused, _andThen_, ru
 use Rattle.format.specs.Plain.{Listing, endOf, sub}
 use Rattle.format.specs.Nest.{stillOpen, innermost, nestFrom, rooted, nest}
 use Rattle.format.specs.Buffer.{wordShape}
-use Rattle.format.specs.Tables.{partCount, indexedBelow}
+use Rattle.format.specs.Tables.{Mode, limits, indexedBelow}
 use Rattle.format.specs.WordList.{wordOf, treeList, rawFrom, wordFields, listCount, given, rowTwo, listRules}
 use Rattle.format.specs.Writer.{partIndex, symbolIndex, rawOf, raws, present, rowFive}
 use Rattle.format.specs.Holding.{holdingAll}
@@ -66,18 +66,18 @@ module _ (l : List ℕ) where
 
   -- ---- row 5 and the trees with their indices
 
-  module _ (parts symbols : List ℕ) where
-    pub holding-raw : (n : ℕ) → 1 ≤ n → rawOf parts symbols (holdingAll l) n ≡ rawOf parts symbols l n
+  module _ (M : Mode) where
+    pub holding-raw : (n : ℕ) → 1 ≤ n → rawOf M (holdingAll l) n ≡ rawOf M l n
     holding-raw n h =
-        ap (λ (w : ℕ → ℕ). if eqb n 0 then rawFrom (partCount parts symbols - 2) (partCount parts symbols - 1) 0 w else
-        rawFrom (partIndex parts symbols (partFrom w openAt)) (partIndex parts symbols (partFrom w closeAt)) (symbolIndex parts symbols (w 1)) w) (holding-words n h)
+        ap (λ (w : ℕ → ℕ). if eqb n 0 then rawFrom (M .root) (M .root + 1) 0 w else
+        rawFrom (partIndex M (partFrom w openAt)) (partIndex M (partFrom w closeAt)) (symbolIndex M (w 1)) w) (holding-words n h)
 
-    pub holding-raws : (j n : ℕ) → 1 ≤ n → raws parts symbols (holdingAll l) j n ≡ raws parts symbols l j n
+    pub holding-raws : (j n : ℕ) → 1 ≤ n → raws M (holdingAll l) j n ≡ raws M l j n
     unfolding raws
     holding-raws zero n h = refl
     holding-raws (suc j) n h = rw (holding-raw n h, holding-raws j (n + 1) (omega arith))
 
-    pub holding-present : (n : ℕ) → present parts symbols (holdingAll l) n ≡ present parts symbols l n
+    pub holding-present : (n : ℕ) → present M (holdingAll l) n ≡ present M l n
     holding-present zero =
         let e₃ = holding-other 3 (λ e. absurd (omega arith)) in
         let e₄ = holding-other 4 (λ e. absurd (omega arith)) in
@@ -88,10 +88,10 @@ module _ (l : List ℕ) where
         rw (e₃, e₄, e₅, e₈, e₉, e₁₀)
     holding-present (suc n) =
         let e : eqb (suc n) 0 ≡ false = ne-eqb (suc n) 0 (λ q. absurd (omega arith)) in
-        simp e (ap (λ (w : ℕ → ℕ). indexedBelow (partCount parts symbols) (length symbols)
-        (rawFrom (partIndex parts symbols (partFrom w openAt)) (partIndex parts symbols (partFrom w closeAt)) (symbolIndex parts symbols (w 1)) w)) (holding-words (suc n) (omega arith)))
+        simp e (ap (λ (w : ℕ → ℕ). indexedBelow (limits M)
+        (rawFrom (partIndex M (partFrom w openAt)) (partIndex M (partFrom w closeAt)) (symbolIndex M (w 1)) w)) (holding-words (suc n) (omega arith)))
 
-    pub holding-five : (j n : ℕ) → eachFrom (rowFive parts symbols (holdingAll l)) j n ≡ eachFrom (rowFive parts symbols l) j n
+    pub holding-five : (j n : ℕ) → eachFrom (rowFive M (holdingAll l)) j n ≡ eachFrom (rowFive M l) j n
     holding-five j n = ap (λ (f : ℕ → Verdict). eachFrom f j n) (λ i m. rule (holding-present m i) 5 m)
 
   -- ---- rows 2 to 4

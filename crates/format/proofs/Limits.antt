@@ -5,7 +5,7 @@ use mathlib.Core.Path.{_≡_, refl}
 use mathlib.Core.List.{List, []}
 use Rattle.format.specs.Fields.{spanFits, isScalar, fields}
 use Rattle.format.specs.Tree.{punct, ident, literal, subtree}
-use Rattle.format.specs.Tables.{tablesSized, rowEight, countRules}
+use Rattle.format.specs.Tables.{tablesSized, rowEight, ownLimits, countRules}
 use Rattle.format.specs.Buffer.{rawReader}
 use Rattle.format.specs.WordList.{rawFrom, wordFields}
 use Rattle.format.specs.Write.{fits000, fits001, fits010}
@@ -41,10 +41,10 @@ sizes : (tablesSized 2 0 ≡ true) × (tablesSized 1 0 ≡ false) × (tablesSize
 sizes = (refl, refl, refl, refl, refl, refl, refl, refl, refl)
 
 -- row 8, "part 5 of 3": of three parts a descendant uses part 0 alone, the root parts 1 and 2
-indices : (rowEight 3 0 1 (punct (spanOf 5 0 0) 43 0) ≡ 8) × (rowEight 3 0 1 (punct (spanOf 0 0 0) 43 0) ≡ 0) × (rowEight 3 0 1 (punct (spanOf 1 0 0) 43 0) ≡ 8) × (rowEight 3 0 1 (punct (spanOf 2 0 0) 43 0) ≡ 8)
-    × (rowEight 3 1 1 (ident (spanOf 0 0 0) 0 0) ≡ 0) × (rowEight 3 1 1 (ident (spanOf 0 0 0) 1 0) ≡ 8) × (rowEight 3 1 1 (literal (spanOf 0 0 0) 1 0 0 0) ≡ 8)
-    × (rowEight 3 0 1 (subtree (spanOf 0 0 0) (spanOf 0 0 0) 0 0) ≡ 0) × (rowEight 3 0 1 (subtree (spanOf 0 0 0) (spanOf 1 0 0) 0 0) ≡ 8)
-    × (rowEight 3 0 0 (subtree (spanOf 1 0 0) (spanOf 2 0 0) 0 0) ≡ 0) × (rowEight 3 0 0 (subtree (spanOf 2 0 0) (spanOf 1 0 0) 0 0) ≡ 8) × (rowEight 3 0 0 (subtree (spanOf 0 0 0) (spanOf 0 0 0) 0 0) ≡ 8)
+indices : (rowEight (ownLimits 3 0) 1 (punct (spanOf 5 0 0) 43 0) ≡ 8) × (rowEight (ownLimits 3 0) 1 (punct (spanOf 0 0 0) 43 0) ≡ 0) × (rowEight (ownLimits 3 0) 1 (punct (spanOf 1 0 0) 43 0) ≡ 8) × (rowEight (ownLimits 3 0) 1 (punct (spanOf 2 0 0) 43 0) ≡ 8)
+    × (rowEight (ownLimits 3 1) 1 (ident (spanOf 0 0 0) 0 0) ≡ 0) × (rowEight (ownLimits 3 1) 1 (ident (spanOf 0 0 0) 1 0) ≡ 8) × (rowEight (ownLimits 3 1) 1 (literal (spanOf 0 0 0) 1 0 0 0) ≡ 8)
+    × (rowEight (ownLimits 3 0) 1 (subtree (spanOf 0 0 0) (spanOf 0 0 0) 0 0) ≡ 0) × (rowEight (ownLimits 3 0) 1 (subtree (spanOf 0 0 0) (spanOf 1 0 0) 0 0) ≡ 8)
+    × (rowEight (ownLimits 3 0) 0 (subtree (spanOf 1 0 0) (spanOf 2 0 0) 0 0) ≡ 0) × (rowEight (ownLimits 3 0) 0 (subtree (spanOf 2 0 0) (spanOf 1 0 0) 0 0) ≡ 8) × (rowEight (ownLimits 3 0) 0 (subtree (spanOf 0 0 0) (spanOf 0 0 0) 0 0) ≡ 8)
 indices = (refl, refl, refl, refl, refl, refl, refl, refl, refl, refl, refl, refl)
 
 -- 000: "count and children bytes up to 255, both lengths 1, distance up to 2047"; close 2052 fits, 2053 does not; "51 five-byte puncts (255 bytes) still fit 000; 52 do not"

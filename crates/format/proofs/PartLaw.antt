@@ -1,13 +1,14 @@
 -- Parts and spans by their words: equal exactly where the tests say so. What stands in a part, and how many words, is asked for here alone.
 use Prim.Native.Nat.{ℕ, suc, _+_, _*_, _<_}
 use mathlib.Core.Bool.{true}
-use mathlib.Core.Path.{_≡_, refl, ap}
+use mathlib.Core.Path.{_≡_, ap, _∙_}
 use mathlib.Core.List.{List, [], _∷_, _++_}
 use native.Mathlib.Omega.{arith}
 use native.Mathlib.Nat.{add-zero}
 use borrow.Author.Tests.{eq-eqb, eqb-true}
 use lib.Dec.{eqb}
-use lib.ListN.{getD}
+use lib.ListN.{getD, drop}
+use lib.Seq.{getD-drop}
 use Rattle.format.specs.Width.{partSize}
 use Rattle.format.specs.Part.{Part, partWords, partFrom, samePart, partAt, WordSpan, sameSpan}
 use Rattle.format.proofs.Each.{and₃}
@@ -68,3 +69,8 @@ entry-same t u i k same =
     let b = same 1 (omega arith) in
     let c = same 2 (omega arith) in
     λ x. record { file = a x; ast = b x; context = c x }
+
+pub part-drop : (t : List ℕ) (i j : ℕ) → partAt (drop (partSize * i) t) j ≡ partAt t (i + j)
+part-drop t i j =
+    entry-same (drop (partSize * i) t) t j (i + j)
+    (λ x h. let e : partSize * i + (partSize * j + x) ≡ partSize * (i + j) + x = omega arith in getD-drop (partSize * i) t (partSize * j + x) 0 ∙ ap (λ (y : ℕ). getD t y 0) e)

@@ -12,7 +12,7 @@ use Rattle.format.specs.Check.{check}
 use Rattle.format.specs.Sight.{sight, Alike}
 use Rattle.format.specs.Tree.{Raw, punct, ident, literal, subtree, isSubtree, countOf, treeAt}
 use Rattle.format.specs.Fields.{fields}
-use Rattle.format.specs.Tables.{TableRules, Tables, rules, treeWords, countRules, ownTables}
+use Rattle.format.specs.Tables.{TableRules, Tables, rules, Mode, treeWords, modeTables, countRules, ownMode, ownTables}
 use Rattle.format.specs.Buffer.{formed, unless, judge, wordShape, rawShape, reader, rawReader, ownReader, bufferCheck, sizeReader}
 use Rattle.format.specs.Width.{partSize}
 use Rattle.format.proofs.Each.{true-false}
@@ -62,21 +62,21 @@ module _ (b : List ℕ) (k : ℕ) (T : Tables) (T′ : TableRules) (w : Telling 
   pub raw-check : check wordShape (reader b k T) ≡ check rawShape (rawReader b k T′)
   raw-check = check-same wordShape (reader b k T) rawShape (rawReader b k T′) raw-alike
 
-pub own-telling : (parts symbols : List ℕ) → Telling (ownTables parts symbols)
+pub mode-telling : (M : Mode) → Telling (modeTables M)
 unfolding treeWords
-own-telling parts symbols = record { sort = λ n t. sorted t; count = λ n t e. counted t e }
+mode-telling M = record { sort = sorted; count = counted }
   where
-    sorted : (t : Raw) → eqb (getD (treeWords parts symbols t) 0 0) 3 ≡ isSubtree t
-    sorted (punct s c x) = refl
-    sorted (ident s i r) = refl
-    sorted (literal s i k r x) = refl
-    sorted (subtree s t n d) = refl
+    sorted : (n : ℕ) (t : Raw) → eqb (getD (treeWords M n t) 0 0) 3 ≡ isSubtree t
+    sorted n (punct s c x) = refl
+    sorted n (ident s i r) = refl
+    sorted n (literal s i k r x) = refl
+    sorted n (subtree s t c d) = refl
 
-    counted : (t : Raw) → isSubtree t ≡ true → getD (treeWords parts symbols t) 1 0 ≡ countOf t
-    counted (punct s c x) e = true-false false e refl
-    counted (ident s i r) e = true-false false e refl
-    counted (literal s i k r x) e = true-false false e refl
-    counted (subtree s t n d) e = refl
+    counted : (n : ℕ) (t : Raw) → isSubtree t ≡ true → getD (treeWords M n t) 1 0 ≡ countOf t
+    counted n (punct s c x) e = true-false false e refl
+    counted n (ident s i r) e = true-false false e refl
+    counted n (literal s i k r x) e = true-false false e refl
+    counted n (subtree s t c d) e = refl
 
 -- with whole parts the check needs the number of parts and of symbols, and no entry
 pub own-check : (b : List ℕ) (k : ℕ) (parts symbols : List ℕ) → length parts % partSize ≡ 0
@@ -84,4 +84,4 @@ pub own-check : (b : List ℕ) (k : ℕ) (parts symbols : List ℕ) → length p
 unfolding ownReader sizeReader
 own-check b k parts symbols h =
     let e = eq-eqb (length parts % partSize) 0 h in
-    raw-check b k (ownTables parts symbols) (countRules (length parts / partSize) (length symbols)) (own-telling parts symbols) (simp e) (λ n t. refl)
+    raw-check b k (ownTables parts symbols) (countRules (length parts / partSize) (length symbols)) (mode-telling (ownMode parts symbols)) (simp e) (λ n t. refl)

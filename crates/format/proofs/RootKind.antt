@@ -12,7 +12,7 @@ use Rattle.format.specs.Word.{byteAt, wordAt}
 use Rattle.format.specs.Reader.{Reader, got}
 use Rattle.format.specs.Check.{listing}
 use Rattle.format.specs.Tree.{Raw, subtree, treeAt}
-use Rattle.format.specs.Tables.{treeWords}
+use Rattle.format.specs.Tables.{treeWords, ownMode}
 use Rattle.format.specs.Buffer.{wordShape, ownReader, bufferCheck}
 use Rattle.format.specs.Root.{kindVerdict, newKind, kindAfter, OnlyKind, withKind, RootOnly}
 use Rattle.format.proofs.Each.{both, rule-passed}
@@ -47,8 +47,8 @@ module _ (b : List ℕ) (k : ℕ) (parts symbols : List ℕ) (d : ℕ) where
         let v = both (bufferCheck b k parts symbols) (rule (leb d 3) 2 0) ok in
         (v .0, rule-passed (leb d 3) 2 0 (v .1))
 
-    root : Root b k parts symbols
-    root = root-of b k parts symbols (admitted b k parts symbols (kind-passed .0))
+    root : Root b k (ownMode parts symbols)
+    root = root-of b k (ownMode parts symbols) (admitted b k parts symbols (kind-passed .0))
 
     fit : 12 + 1 ≤ length b
     fit = let h = root .stands .room in omega arith
@@ -56,12 +56,15 @@ module _ (b : List ℕ) (k : ℕ) (parts symbols : List ℕ) (d : ℕ) where
     byte-12 : byteAt new 12 ≡ byteAt b 12 % 8 + 8 * d
     byte-12 = put-at b 12 vs fit 0 (omega arith)
 
-    kept : Kept b new parts parts
+    kept : Kept b new (ownMode parts symbols) (ownMode parts symbols)
     kept =
         record {
           size = put-length b 12 vs fit;
           bytes = λ i l. put-after b 12 vs fit i (omega arith);
-          table = refl;
+          sized = refl;
+          limit = refl;
+          root = refl;
+          symbols = refl;
           entries = λ i l. refl;
         }
 
@@ -101,8 +104,8 @@ module _ (b : List ℕ) (k : ℕ) (parts symbols : List ℕ) (d : ℕ) where
         let z : byteAt new 12 / 8 ≡ d = rw e (omega arith) in
         root-read new s t stands ∙ (λ i. got (subtree s t (x i) (z i)) 33 (y i))
 
-    changed : RootOnly old (ownReader new k parts symbols) (treeWords parts symbols newRoot)
-    unfolding newRoot
+    changed : RootOnly old (ownReader new k parts symbols) (treeWords (ownMode parts symbols) 0 newRoot)
+    unfolding newRoot ownReader
     changed =
         let a = admitted b k parts symbols (kind-passed .0) in
         let s = root .inOpen in
@@ -110,13 +113,13 @@ module _ (b : List ℕ) (k : ℕ) (parts symbols : List ℕ) (d : ℕ) where
         let l = kind-passed .1 in
         let x = root .first in
         let y = root .last in
-        rewritten b k parts symbols a new parts kept (root .opening) (root .closing) d reads (simp (s, t, l)) (simp (x, y))
+        rewritten b k (ownMode parts symbols) a new (ownMode parts symbols) kept (root .opening) (root .closing) d reads (simp (s, t, l)) (simp (x, y))
 
     -- the buffer stays admitted; of its list, word 2 of tree 0 is the new kind and all else is as it was
     pub kind-rewritten : RootOnly old (ownReader after k parts symbols) (withKind d (listing wordShape old .tree 0))
     unfolding ownReader treeWords kindAfter newRoot
     kind-rewritten =
-        let e : withKind d (listing wordShape old .tree 0) ≡ treeWords parts symbols newRoot = ap (withKind d) (root .words) in
+        let e : withKind d (listing wordShape old .tree 0) ≡ treeWords (ownMode parts symbols) 0 newRoot = ap (withKind d) (root .words) in
         rw (ok, e) changed
 
     -- … so it passes the check again

@@ -1,5 +1,6 @@
 -- The root's spans rewritten: the buffer stays admitted, and of its list the spans of tree 0 are the new spans; nothing else has changed.
-use Prim.Native.Nat.{ℕ, _+_, _*_, _-_, _/_, _≤_, _<_}
+use Prim.Native.Nat.{ℕ, _+_, _*_, _-_, _/_, _%_, _≤_, _<_}
+use lib.Dec.{eqb}
 use mathlib.Core.Bool.{true, false, _&&_}
 use mathlib.Core.Path.{_≡_, refl, sym, ap, _∙_}
 use mathlib.Core.List.{List, [], _∷_, _++_}
@@ -13,14 +14,14 @@ use Rattle.format.specs.Reader.{Reader, got}
 use Rattle.format.specs.Check.{listing, Admitted}
 use Rattle.format.specs.Tree.{Raw, subtree, treeAt}
 use Rattle.format.specs.Fields.{spanFits}
-use Rattle.format.specs.Tables.{partCount, treeWords, ownTables}
+use Rattle.format.specs.Tables.{Mode, entryAt, treeWords, tablesSized, partCount, ownMode, ownTables}
 use Rattle.format.specs.Buffer.{wordShape, reader, ownReader, bufferCheck}
 use Rattle.format.specs.Write.{heavyBytes}
 use Rattle.format.specs.Root.{rangeFits, spansVerdict, newSpans, newParts, spansAfter, partsAfter, OnlySpans, withSpans, RootOnly}
 use Rattle.format.specs.Width.{partSize}
-use Rattle.format.specs.Part.{partWords, WordSpan, spanList, indexed}
+use Rattle.format.specs.Part.{WordSpan, partWords, partAt, spanList, indexed}
 use Rattle.format.proofs.Each.{and-left, and-right, both, rule-passed}
-use Rattle.format.proofs.PartLaw.{entry-same}
+use Rattle.format.proofs.PartLaw.{entry-same, part-drop}
 use Rattle.format.proofs.CheckLaw.{check-complete}
 use Rattle.format.proofs.Holds.{Holds}
 use Rattle.format.proofs.SpanBack.{Packable, heavy-back}
@@ -47,7 +48,7 @@ module _ (b : List ℕ) (k : ℕ) (parts symbols : List ℕ) (opening closing : 
   partsNow = partsAfter b k parts symbols opening closing
 
   abbrev new : List ℕ
-  new = newSpans b P opening closing
+  new = newSpans b (P - 2) opening closing
 
   abbrev table : List ℕ
   table = newParts parts opening closing
@@ -56,7 +57,7 @@ module _ (b : List ℕ) (k : ℕ) (parts symbols : List ℕ) (opening closing : 
   S = indexed (P - 2) opening
 
   abbrev U : Span
-  U = indexed (P - 1) closing
+  U = indexed (P - 2 + 1) closing
 
   abbrev xs : List ℕ
   xs = heavyBytes 0 S
@@ -78,8 +79,8 @@ module _ (b : List ℕ) (k : ℕ) (parts symbols : List ℕ) (opening closing : 
     ad : Admitted wordShape (reader b k (ownTables parts symbols))
     ad = admitted b k parts symbols (spans-passed .0)
 
-    root : Root b k parts symbols
-    root = root-of b k parts symbols ad
+    root : Root b k (ownMode parts symbols)
+    root = root-of b k (ownMode parts symbols) ad
 
     room : 33 ≤ length b
     room = root .stands .room
@@ -138,7 +139,7 @@ module _ (b : List ℕ) (k : ℕ) (parts symbols : List ℕ) (opening closing : 
         let z = sizes b k parts symbols ad in
         let a = z .two in
         let c = z .many in
-        heavy-back new 13 0 U (omega arith) (packable (P - 1) closing (omega arith) (spans-passed .2)) closes
+        heavy-back new 13 0 U (omega arith) (packable (P - 2 + 1) closing (omega arith) (spans-passed .2)) closes
 
     abbrev newRoot : Raw
     newRoot = subtree S U (wordAt b 25) (byteAt b 12 / 8)
@@ -167,26 +168,49 @@ module _ (b : List ℕ) (k : ℕ) (parts symbols : List ℕ) (opening closing : 
     tableSize : length table ≡ length parts
     tableSize = put-length parts (length parts - 2 * partSize) pair lastFit
 
-    kept : Kept b new parts table
+    others : (i : ℕ) → i + 2 * partSize < length parts → getD table i 0 ≡ getD parts i 0
+    others i l = put-before parts (length parts - 2 * partSize) pair lastFit i (omega arith)
+
+    abbrev M : Mode
+    M = ownMode parts symbols
+
+    abbrev M′ : Mode
+    M′ = ownMode table symbols
+
+    kept : Kept b new M M′
     kept =
+        let z = tableSize in
         record {
           size = size;
           bytes = λ i l. behind i (omega arith);
-          table = tableSize;
-          entries = λ i l. put-before parts (length parts - 2 * partSize) pair lastFit i (omega arith);
+          sized = ap (λ n. eqb (n % partSize) 0 && tablesSized (n / partSize) (length symbols)) z;
+          limit = ap (λ n. n / partSize - 2) z;
+          root = ap (λ n. n / partSize - 2) z;
+          symbols = refl;
+          entries = λ i l. entry-same table parts i i (λ j h. others (partSize * i + j) (omega arith));
         }
 
     part-word : (i j : ℕ) → j < 2 * partSize → i ≡ length parts - 2 * partSize + j → getD table i 0 ≡ getD pair j 0
     part-word i j l e = rw e (put-at parts (length parts - 2 * partSize) pair lastFit j l)
 
-    spans-words : treeWords table symbols newRoot ≡ 3 ∷ wordAt b 25 ∷ byteAt b 12 / 8 ∷ spanList opening ++ spanList closing
-    unfolding treeWords
-    spans-words =
+    -- the root's entries are the new ones
+    entry : (i j : ℕ) → i ≡ P - 2 + j → j < 2 → entryAt M′ 0 i ≡ partAt pair j
+    entry i j e l =
         let z = sizes b k parts symbols ad in
         let a = z .two in
         let w = z .whole in
-        let o = entry-same table pair (P - 2) 0 (λ j h. part-word (partSize * (P - 2) + j) (partSize * 0 + j) (omega arith) (omega arith)) in
-        let c = entry-same table pair (P - 1) 1 (λ j h. part-word (partSize * (P - 1) + j) (partSize * 1 + j) (omega arith) (omega arith)) in
+        let s : length table / partSize ≡ P = ap (λ n. n / partSize) tableSize in
+        let d : i - (length table / partSize - 2) ≡ j = omega arith in
+        let p = part-drop table (length table / partSize - 2) j in
+        let q : length table / partSize - 2 + j ≡ P - 2 + j = omega arith in
+        ap (partAt (M′ .pair)) d ∙ p ∙ ap (partAt table) q
+        ∙ entry-same table pair (P - 2 + j) j (λ x h. part-word (partSize * (P - 2 + j) + x) (partSize * j + x) (omega arith) (omega arith))
+
+    spans-words : treeWords M′ 0 newRoot ≡ 3 ∷ wordAt b 25 ∷ byteAt b 12 / 8 ∷ spanList opening ++ spanList closing
+    unfolding treeWords
+    spans-words =
+        let o = entry (P - 2) 0 (omega arith) (omega arith) in
+        let c = entry (P - 2 + 1) 1 refl (omega arith) in
         λ i. 3 ∷ wordAt b 25 ∷ byteAt b 12 / 8
         ∷ spanList (record { part = o i; start = opening .start; len = opening .len }) ++ spanList (record { part = c i; start = closing .start; len = closing .len })
 
@@ -194,16 +218,16 @@ module _ (b : List ℕ) (k : ℕ) (parts symbols : List ℕ) (opening closing : 
     pub spans-rewritten : RootOnly old (ownReader after k partsNow symbols) (withSpans opening closing (listing wordShape old .tree 0))
     unfolding ownReader treeWords spansAfter partsAfter
     spans-rewritten =
-        let e : withSpans opening closing (listing wordShape old .tree 0) ≡ treeWords table symbols newRoot =
+        let e : withSpans opening closing (listing wordShape old .tree 0) ≡ treeWords M′ 0 newRoot =
         ap (withSpans opening closing) (root .words) ∙ sym spans-words in
         let z = sizes b k parts symbols ad in
         let a = z .two in
-        let x = eq-eqb (P - 2 + 2) P (omega arith) in
-        let y = eq-eqb (P - 1 + 1) P (omega arith) in
+        let x = eq-eqb (P - 2) (P - 2) refl in
+        let y = eq-eqb (P - 2 + 1) (P - 2 + 1) refl in
         let i = spans-passed .1 in
         let j = spans-passed .2 in
         let l = root .inKind in
-        rw (ok, e) (rewritten b k parts symbols ad new table kept S U (byteAt b 12 / 8) reads (simp (i, j, l)) (simp (x, y)))
+        rw (ok, e) (rewritten b k M ad new M′ kept S U (byteAt b 12 / 8) reads (simp (i, j, l)) (simp (x, y)))
 
     -- … so it passes the check again
     pub spans-passes : bufferCheck after k partsNow symbols ≡ passed
@@ -218,7 +242,7 @@ module _ (b : List ℕ) (k : ℕ) (parts symbols : List ℕ) (opening closing : 
     spans-stand = let e = spans-stored .0 in (rw e opened, rw e closed)
 
     only : OnlySpans b new parts table
-    only = record { size = size; control = between; behind = behind; tableSize = tableSize; others = kept .entries }
+    only = record { size = size; control = between; behind = behind; tableSize = tableSize; others = others }
 
   -- ---- for every input
 

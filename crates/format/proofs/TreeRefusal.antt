@@ -14,7 +14,7 @@ use Rattle.format.specs.Reader.{Shape, Reader, Reply, got, bad}
 use Rattle.format.specs.Check.{placeOf, reading}
 use Rattle.format.specs.Tree.{Raw, treeAt}
 use Rattle.format.specs.Fields.{fields}
-use Rattle.format.specs.Tables.{TableRules, partCount, indexedBelow, indexedRoot, rowEight, countRules, rules, ownTables}
+use Rattle.format.specs.Tables.{TableRules, Limits, indexedBelow, indexedRoot, rowEight, limits, ownLimits, countRules, rules, ownMode, ownTables}
 use Rattle.format.specs.Buffer.{formed, judge, readerAs, wordShape, rawShape, ownReader, bufferCheck, sizeReader}
 use Rattle.format.proofs.CheckRefusal.{Refused, check-refusal, refused-check}
 use Rattle.format.proofs.RootForm.{Form, root-form, form-root}
@@ -73,16 +73,16 @@ module _ (b : List ℕ) (p : ℕ) (t : Raw) (next kids : ℕ) (e : treeAt b p �
 
 -- ---- by the sizes of the tables: 7, 2 or 8
 
-module _ (b : List ℕ) (parts symbols n p : ℕ) where
+module _ (b : List ℕ) (N : Limits) (n p : ℕ) where
   pub data TreeRow : ℕ → Type 0 where
     cut : treeAt b p ≡ bad 7 → TreeRow 7
     early : Early b p → TreeRow 2
     form : (t : Raw) (next kids : ℕ) → treeAt b p ≡ got t next kids → formed n p next ≡ false → TreeRow 2
     field : (t : Raw) (next kids : ℕ) → treeAt b p ≡ got t next kids → formed n p next ≡ true → fields t ≡ false → TreeRow 2
     index : (t : Raw) (next kids : ℕ) → treeAt b p ≡ got t next kids → formed n p next ≡ true → fields t ≡ true
-        → (if eqb n 0 then indexedRoot parts symbols t else indexedBelow parts symbols t) ≡ false → TreeRow 8
+        → (if eqb n 0 then indexedRoot N t else indexedBelow N t) ≡ false → TreeRow 8
 
-  module _ {A : Type 0} (show : ℕ → Raw → A) (T : TableRules) (eight : (t : Raw) → T .judged n t ≡ rowEight parts symbols n t) where
+  module _ {A : Type 0} (show : ℕ → Raw → A) (T : TableRules) (eight : (t : Raw) → T .judged n t ≡ rowEight N n t) where
     tree-row-of : (x : Reply Raw) (r : ℕ) → treeAt b p ≡ x → Row show T n p x r → TreeRow r
     tree-row-of x r e (bytes a) =
         ⊎-elim (λ i. subst TreeRow (sym i) (cut (e ∙ ap bad i))) (λ i. subst TreeRow (sym (i .0)) (early (i .1))) (unread b p a e)
@@ -90,7 +90,7 @@ module _ (b : List ℕ) (parts symbols n p : ℕ) where
     tree-row-of x r e (range t q k f g) = field t q k e f g
     tree-row-of x r e (table t q k f g h) = go _ refl
       where
-        go : (z : Bool) → (if eqb n 0 then indexedRoot parts symbols t else indexedBelow parts symbols t) ≡ z → TreeRow (T .judged n t)
+        go : (z : Bool) → (if eqb n 0 then indexedRoot N t else indexedBelow N t) ≡ z → TreeRow (T .judged n t)
         go true i = absurd (h (eight t ∙ simp i))
         go false i = subst TreeRow (sym (eight t ∙ simp i)) (index t q k e f g i)
 
@@ -105,12 +105,12 @@ module _ (b : List ℕ) (parts symbols n p : ℕ) where
     row-tree r (field t q k e f g) = rw e (simp (f, g))
     row-tree r (index t q k e f g h) = rw e (simp (f, g, eight t, h))
 
-pub row-numbers : (b : List ℕ) (parts symbols n p r : ℕ) → TreeRow b parts symbols n p r → (r ≡ 7) ⊎ ((r ≡ 2) ⊎ (r ≡ 8))
-row-numbers b parts symbols n p r (cut e) = inl refl
-row-numbers b parts symbols n p r (early h) = inr (inl refl)
-row-numbers b parts symbols n p r (form t q k e f) = inr (inl refl)
-row-numbers b parts symbols n p r (field t q k e f g) = inr (inl refl)
-row-numbers b parts symbols n p r (index t q k e f g h) = inr (inr refl)
+pub row-numbers : (b : List ℕ) (N : Limits) (n p r : ℕ) → TreeRow b N n p r → (r ≡ 7) ⊎ ((r ≡ 2) ⊎ (r ≡ 8))
+row-numbers b N n p r (cut e) = inl refl
+row-numbers b N n p r (early h) = inr (inl refl)
+row-numbers b N n p r (form t q k e f) = inr (inl refl)
+row-numbers b N n p r (field t q k e f g) = inr (inl refl)
+row-numbers b N n p r (index t q k e f g h) = inr (inr refl)
 
 -- ---- the check of a stored buffer
 
@@ -119,22 +119,22 @@ module _ (b : List ℕ) (k : ℕ) (parts symbols : List ℕ) where
   R = ownReader b k parts symbols
 
   abbrev pub OwnRow : ℕ → ℕ → Type 0
-  OwnRow n r = TreeRow b (partCount parts symbols) (length symbols) n (placeOf wordShape R n) r
+  OwnRow n r = TreeRow b (limits (ownMode parts symbols)) n (placeOf wordShape R n) r
 
   pub own-row : (n r : ℕ) → reading wordShape R n ≡ bad r → OwnRow n r
   unfolding ownReader
   own-row n r e =
       let T = ownTables parts symbols in
-      tree-row b (partCount parts symbols) (length symbols) n (placeOf wordShape R n) (T .words) (rules T) (λ t. refl) r e
+      tree-row b (limits (ownMode parts symbols)) n (placeOf wordShape R n) (T .words) (rules T) (λ t. refl) r e
 
   pub row-own : (n r : ℕ) → OwnRow n r → reading wordShape R n ≡ bad r
   unfolding ownReader
   row-own n r e =
       let T = ownTables parts symbols in
-      row-tree b (partCount parts symbols) (length symbols) n (placeOf wordShape R n) (T .words) (rules T) (λ t. refl) r e
+      row-tree b (limits (ownMode parts symbols)) n (placeOf wordShape R n) (T .words) (rules T) (λ t. refl) r e
 
   pub own-numbers : (n r : ℕ) → reading wordShape R n ≡ bad r → (r ≡ 7) ⊎ ((r ≡ 2) ⊎ (r ≡ 8))
-  own-numbers n r e = row-numbers b (partCount parts symbols) (length symbols) n (placeOf wordShape R n) r (own-row n r e)
+  own-numbers n r e = row-numbers b (limits (ownMode parts symbols)) n (placeOf wordShape R n) r (own-row n r e)
 
   -- a refusal is given exactly where its row holds and no earlier check fails
   pub own-refusal : (r n : ℕ) → bufferCheck b k parts symbols ≡ refused r n → Refused wordShape R r n
@@ -147,12 +147,12 @@ module _ (b : List ℕ) (k : ℕ) (parts symbols : List ℕ) where
 
 module _ (b : List ℕ) (k parts symbols : ℕ) where
   abbrev pub SizeRow : ℕ → ℕ → Type 0
-  SizeRow n r = TreeRow b parts symbols n (placeOf rawShape (sizeReader b k parts symbols) n) r
+  SizeRow n r = TreeRow b (ownLimits parts symbols) n (placeOf rawShape (sizeReader b k parts symbols) n) r
 
   pub size-row : (n r : ℕ) → reading rawShape (sizeReader b k parts symbols) n ≡ bad r → SizeRow n r
   unfolding sizeReader
-  size-row n r e = tree-row b parts symbols n (placeOf rawShape (sizeReader b k parts symbols) n) (λ n t. t) (countRules parts symbols) (λ t. refl) r e
+  size-row n r e = tree-row b (ownLimits parts symbols) n (placeOf rawShape (sizeReader b k parts symbols) n) (λ n t. t) (countRules parts symbols) (λ t. refl) r e
 
   pub row-size : (n r : ℕ) → SizeRow n r → reading rawShape (sizeReader b k parts symbols) n ≡ bad r
   unfolding sizeReader
-  row-size n r e = row-tree b parts symbols n (placeOf rawShape (sizeReader b k parts symbols) n) (λ n t. t) (countRules parts symbols) (λ t. refl) r e
+  row-size n r e = row-tree b (ownLimits parts symbols) n (placeOf rawShape (sizeReader b k parts symbols) n) (λ n t. t) (countRules parts symbols) (λ t. refl) r e

@@ -12,7 +12,7 @@ use Rattle.format.specs.Verdict.{Verdict, passed, refused, _andThen_, ru
 use Rattle.format.specs.Plain.{Listing, endOf}
 use Rattle.format.specs.Laws.{Nested}
 use Rattle.format.specs.Nest.{rooted, nest}
-use Rattle.format.specs.Tables.{ownTables}
+use Rattle.format.specs.Tables.{ownTables, ownMode}
 use Rattle.format.specs.Buffer.{wordShape}
 use Rattle.format.specs.WordList.{wordOf, wordFields, listCount, given, listSized, rowTwo, listRules, listRows}
 use Rattle.format.specs.Writer.{present, rowFive, listVerdict, packed, writerVerdict}
@@ -122,47 +122,47 @@ module _ (parts symbols l : List ℕ) where
   pub record Writes : Type 0 where
     pub sized : sizes ≡ true
     pub ruled : Ruled l
-    pub stand : (m : ℕ) → m < listCount l → Absent parts symbols l m → ⊥
+    pub stand : (m : ℕ) → m < listCount l → Absent (ownMode parts symbols) l m → ⊥
 
   pub data ListRefused : ℕ → ℕ → Type 0 where
     size : sizes ≡ false → ListRefused 1 0
     rules : (r n : ℕ) → sizes ≡ true → RulesRefused l r n → ListRefused r n
     -- the lowest tree that lacks a part or a symbol
-    absent : (n : ℕ) → sizes ≡ true → Ruled l → n < listCount l → Absent parts symbols l n → ((m : ℕ) → m < n → Absent parts symbols l m → ⊥) → ListRefused 5 n
+    absent : (n : ℕ) → sizes ≡ true → Ruled l → n < listCount l → Absent (ownMode parts symbols) l n → ((m : ℕ) → m < n → Absent (ownMode parts symbols) l m → ⊥) → ListRefused 5 n
 
-  stands : (n : ℕ) → (Absent parts symbols l n → ⊥) → rowFive parts symbols l n ≡ passed
-  stands n f = go (present parts symbols l n) refl
+  stands : (n : ℕ) → (Absent (ownMode parts symbols) l n → ⊥) → rowFive (ownMode parts symbols) l n ≡ passed
+  stands n f = go (present (ownMode parts symbols) l n) refl
     where
-      go : (b : Bool) → present parts symbols l n ≡ b → rowFive parts symbols l n ≡ passed
+      go : (b : Bool) → present (ownMode parts symbols) l n ≡ b → rowFive (ownMode parts symbols) l n ≡ passed
       go true e = simp e
-      go false e = absurd (f (absent-of parts symbols l n e))
+      go false e = absurd (f (absent-of (ownMode parts symbols) l n e))
 
-  not-absent : (n : ℕ) → rowFive parts symbols l n ≡ passed → Absent parts symbols l n → ⊥
-  not-absent n e a = true-false (present parts symbols l n) (rule-passed (present parts symbols l n) 5 n e) (absent-not parts symbols l n a)
+  not-absent : (n : ℕ) → rowFive (ownMode parts symbols) l n ≡ passed → Absent (ownMode parts symbols) l n → ⊥
+  not-absent n e a = true-false (present (ownMode parts symbols) l n) (rule-passed (present (ownMode parts symbols) l n) 5 n e) (absent-not (ownMode parts symbols) l n a)
 
   pub list-sound : listVerdict parts symbols l ≡ passed → Writes
   unfolding listVerdict
   list-sound e =
-      let v₃ : Verdict = each (rowFive parts symbols l) (listCount l) in
+      let v₃ : Verdict = each (rowFive (ownMode parts symbols) l) (listCount l) in
       let a = both (rule sizes 1 0) (listRules l andThen v₃) e in
       let b = both (listRules l) v₃ (a .1) in
       record {
         sized = rule-passed sizes 1 0 (a .0);
         ruled = rules-sound l (b .0);
-        stand = λ m h. not-absent m (each-all (rowFive parts symbols l) (listCount l) 0 (b .1) m (omega arith) (omega arith));
+        stand = λ m h. not-absent m (each-all (rowFive (ownMode parts symbols) l) (listCount l) 0 (b .1) m (omega arith) (omega arith));
       }
 
   pub list-complete : Writes → listVerdict parts symbols l ≡ passed
   unfolding listVerdict
   list-complete a =
       let s = a .sized in
-      let f = all-each (rowFive parts symbols l) (listCount l) 0 (λ m h i. stands m (a .stand m (omega arith))) in
+      let f = all-each (rowFive (ownMode parts symbols) l) (listCount l) 0 (λ m h i. stands m (a .stand m (omega arith))) in
       simp (s, rules-complete l (a .ruled), f)
 
   pub list-refusal : (r n : ℕ) → listVerdict parts symbols l ≡ refused r n → ListRefused r n
   unfolding listVerdict
   list-refusal r n e =
-      let v₃ : Verdict = each (rowFive parts symbols l) (listCount l) in
+      let v₃ : Verdict = each (rowFive (ownMode parts symbols) l) (listCount l) in
       then-refused (rule sizes 1 0) (listRules l andThen v₃) r n
       (λ f.
       let x = rule-refused sizes 1 0 r n f in
@@ -172,11 +172,11 @@ module _ (parts symbols l : List ℕ) where
       then-refused (listRules l) v₃ r n
       (λ g. rules r n s′ (rules-refusal l r n g))
       (λ p g.
-      let x = each-lowest (rowFive parts symbols l) (listCount l) 0 r n g in
-      let y = rule-refused (present parts symbols l (x .0)) 5 (x .0) r n (x .3) in
+      let x = each-lowest (rowFive (ownMode parts symbols) l) (listCount l) 0 r n g in
+      let y = rule-refused (present (ownMode parts symbols) l (x .0)) 5 (x .0) r n (x .3) in
       let h = x .2 in
       renumber ListRefused (y .1) (y .2)
-      (absent (x .0) s′ (rules-sound l p) (omega arith) (absent-of parts symbols l (x .0) (y .0)) (λ m i. not-absent m (x .4 m (omega arith) i))))
+      (absent (x .0) s′ (rules-sound l p) (omega arith) (absent-of (ownMode parts symbols) l (x .0) (y .0)) (λ m i. not-absent m (x .4 m (omega arith) i))))
       f)
       e
 
@@ -185,9 +185,9 @@ module _ (parts symbols l : List ℕ) where
   refusal-list r n (size h) = simp h
   refusal-list r n (rules s m h f) = simp (h, refusal-rules l r n f)
   refusal-list r n (absent m h a i e b) =
-      let p = absent-not parts symbols l n e in
-      let f : rowFive parts symbols l n ≡ refused 5 n = simp p in
-      simp (h, rules-complete l a, each-found (rowFive parts symbols l) (listCount l) n 5 n i (λ j g. stands j (b j g)) f)
+      let p = absent-not (ownMode parts symbols) l n e in
+      let f : rowFive (ownMode parts symbols) l n ≡ refused 5 n = simp p in
+      simp (h, rules-complete l a, each-found (rowFive (ownMode parts symbols) l) (listCount l) n 5 n i (λ j g. stands j (b j g)) f)
 
   pub rows-exact : (r n : ℕ) → (listVerdict parts symbols l ≡ refused r n) ↔ ListRefused r n
   rows-exact r n = (list-refusal r n, refusal-list r n)

@@ -13,7 +13,7 @@ use Rattle.format.specs.Check.{Admitted, listing}
 use Rattle.format.specs.Width.{partSize, openAt, treeSize}
 use Rattle.format.specs.Part.{WordSpan, partWords, spanList, indexed}
 use Rattle.format.specs.Fields.{spanFits}
-use Rattle.format.specs.Tables.{partCount}
+use Rattle.format.specs.Tables.{ownMode}
 use Rattle.format.specs.Buffer.{wordShape, bufferCheck}
 use Rattle.format.specs.Write.{heavyBytes}
 
@@ -27,9 +27,9 @@ rangeFits s = spanFits (indexed 0 s)
 abbrev pub newKind : List ℕ → ℕ → List ℕ
 newKind b d = put b 12 ((byteAt b 12 % 8 + 8 * d) ∷ [])
 
--- "Spans: bytes 0 to 11 and 13 to 24": "both spans heavy, control byte at 12, part indices the last two of the table", which has P parts
+-- "Spans: bytes 0 to 11 and 13 to 24": "both spans heavy, control byte at 12, part indices the last two of the table"
 abbrev pub newSpans : List ℕ → ℕ → WordSpan → WordSpan → List ℕ
-newSpans b P opening closing = put (put b 0 (heavyBytes 0 (indexed (P - 2) opening))) 13 (heavyBytes 0 (indexed (P - 1) closing))
+newSpans b root opening closing = put (put b 0 (heavyBytes 0 (indexed root opening))) 13 (heavyBytes 0 (indexed (root + 1) closing))
 
 -- "and the last two parts"
 abbrev pub newParts : List ℕ → WordSpan → WordSpan → List ℕ
@@ -51,7 +51,7 @@ module _ (b : List ℕ) (k : ℕ) (parts symbols : List ℕ) where
     spansVerdict = bufferCheck b k parts symbols andThen rule (rangeFits opening && rangeFits closing) 2 0
 
     unfoldable pub spansAfter : List ℕ
-    spansAfter = contents spansVerdict b (newSpans b (partCount parts symbols) opening closing)
+    spansAfter = contents spansVerdict b (newSpans b (ownMode parts symbols .root) opening closing)
 
     unfoldable pub partsAfter : List ℕ
     partsAfter = contents spansVerdict parts (newParts parts opening closing)

@@ -1,5 +1,5 @@
 -- The writer over given tables: a tree's indices, rows 5 and 6, the bytes, and what the work words and the output hold for every input.
-use Prim.Native.Nat.{ℕ, zero, suc, _+_, _*_, _-_}
+use Prim.Native.Nat.{ℕ, zero, suc, _+_}
 use mathlib.Core.Bool.{Bool, _&&_}
 use mathlib.Core.List.{List, [], _∷_}
 use lib.ListN.{length, getD}
@@ -10,7 +10,7 @@ use Rattle.format.specs.Word.{put}
 use Rattle.format.specs.Width.{openAt, closeAt}
 use Rattle.format.specs.Part.{Part, partFrom, partAt, samePart}
 use Rattle.format.specs.Tree.{Raw}
-use Rattle.format.specs.Tables.{partCount, indexedBelow, ownTables}
+use Rattle.format.specs.Tables.{Mode, limits, indexedBelow, ownMode, ownTables}
 use Rattle.format.specs.Write.{write, workWords}
 use Rattle.format.specs.WordList.{wordOf, rawFrom, listCount, listSized, listRules}
 
@@ -19,23 +19,25 @@ unfoldable pub find : (ℕ → Bool) → ℕ → ℕ → ℕ
 find t zero i = i
 find t (suc j) i = if t i then i else find t j (i + 1)
 
-module _ (parts symbols : List ℕ) where
+-- ---- over the tables of one mode
+
+module _ (M : Mode) where
   abbrev pub isPart : Part → ℕ → Bool
-  isPart p i = samePart (partAt parts i) p
+  isPart p i = samePart (partAt (M .parts) i) p
 
   -- "A part's index is its first place before those two, a symbol's its first place."
   abbrev pub partIndex : Part → ℕ
-  partIndex p = find (isPart p) (partCount parts symbols - 2) 0
+  partIndex p = find (isPart p) (M .limit) 0
 
   abbrev pub symbolIndex : ℕ → ℕ
-  symbolIndex y = find (λ i. eqb (getD symbols i 0) y) (length symbols) 0
+  symbolIndex y = find (λ i. eqb (getD (M .symbols) i 0) y) (length (M .symbols)) 0
 
   module _ (l : List ℕ) where
     -- tree n with its indices; the root's are "the last two of the table"
     abbrev pub rawOf : ℕ → Raw
     rawOf n =
         let w : ℕ → ℕ = wordOf l n in
-        if eqb n 0 then rawFrom (partCount parts symbols - 2) (partCount parts symbols - 1) 0 w else
+        if eqb n 0 then rawFrom (M .root) (M .root + 1) 0 w else
         rawFrom (partIndex (partFrom w openAt)) (partIndex (partFrom w closeAt)) (symbolIndex (w 1)) w
 
     -- trees n to n + j - 1
@@ -47,25 +49,33 @@ module _ (parts symbols : List ℕ) where
     abbrev pub present : ℕ → Bool
     present n =
         let w : ℕ → ℕ = wordOf l n in
-        if eqb n 0 then isPart (partFrom w openAt) (partCount parts symbols - 2) && isPart (partFrom w closeAt) (partCount parts symbols - 1) else
-        indexedBelow (partCount parts symbols) (length symbols) (rawOf n)
+        if eqb n 0 then samePart (partAt (M .pair) 0) (partFrom w openAt) && samePart (partAt (M .pair) 1) (partFrom w closeAt) else
+        indexedBelow (limits M) (rawOf n)
 
     abbrev pub rowFive : ℕ → Verdict
     rowFive n = rule (present n) 5 n
 
+    -- the buffer made of the trees with their indices
+    abbrev pub packedIn : List ℕ
+    packedIn = write (raws (listCount l) 0)
+
+-- ---- over document 01's tables
+
+module _ (parts symbols : List ℕ) where
+  module _ (l : List ℕ) where
     -- "Writer: 1 to 6 in turn": rows 1 to 5
     unfoldable pub listVerdict : Verdict
     listVerdict =
         rule (listSized l && ownTables parts symbols .sized) 1 0 andThen
         listRules l andThen
-        each rowFive (listCount l)
+        each (rowFive (ownMode parts symbols) l) (listCount l)
 
     -- the trees with their indices, and the buffer made of them
     abbrev pub trees : List Raw
-    trees = raws (listCount l) 0
+    trees = raws (ownMode parts symbols) l (listCount l) 0
 
     abbrev pub packed : List ℕ
-    packed = write trees
+    packed = packedIn (ownMode parts symbols) l
 
     module _ (work out : List ℕ) where
       -- row 6, first for the work words, "one more than the trees"
