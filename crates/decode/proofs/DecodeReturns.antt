@@ -1,26 +1,29 @@
 -- One law for each return of the functions that look a tree's indices up, with premises as the code's tests and calls give them.
-use Prim.Native.Nat.{ℕ, _+_, _*_, _/_, _<_, _≤_}
+use Prim.Native.Nat.{ℕ, _+_, _*_, _-_, _/_, _<_, _≤_}
 use mathlib.Core.Bool.{Bool, true, false, not, _&&_}
 use mathlib.Core.Path.{_≡_, refl, sym, ap, _∙_, subst}
-use mathlib.Core.Logic.{_⊎_, ⊎-elim, inl, inr}
 use mathlib.Core.List.{List}
 use native.Mathlib.Omega.{arith}
-use borrow.Author.Tests.{ltb-true, leb-true, eqb-true, ne-eqb, not-true, not-false}
+use borrow.Author.Tests.{ltb-true, leb-true, eqb-true, eq-eqb, ne-eqb, not-true, not-false}
 use lib.Dec.{ltb, leb, eqb}
 use lib.ListN.{length, getD}
 use Rattle.format.specs.Test.{if_then_else_}
 use Rattle.format.specs.Reader.{got}
 use Rattle.format.specs.Tree.{Raw, treeAt}
 use Rattle.format.specs.Fields.{spanFits, isScalar, isRawKind, fields}
-use Rattle.format.specs.Tables.{rules, ownTables}
+use Rattle.format.specs.Width.{partSize}
+use Rattle.format.specs.Part.{Part, partAt}
+use Rattle.format.specs.Tables.{rules, rowEight, Mode, entryAt, modeTables, ownLimits, ownTables}
 use Rattle.format.specs.Buffer.{formed, unless}
 use Rattle.format.proofs.Each.{and-left, and-right, and₄, true-false}
 use Rattle.pack.specs.Answer.{spanOf}
 use Rattle.pack.specs.declared.span.PackedSpan.{PackedSpan}
 use Rattle.tree.specs.Raw.{rawOf, punctRaw, identRaw, literalRaw, subtreeRaw, rawAnswer, inRange}
-use Rattle.tree.specs.Types.{spacingOf, isRawOf, delimiterOf, litKindOf, spacingAnswer, isRawAnswer, delimiterAnswer, litKindAnswer, spanWith, punctWith, identWith, literalWith, subtreeWith, resolved}
+use Rattle.tree.specs.Types.{spacingOf, isRawOf, delimiterOf, litKindOf, spanWith, punctWith, identWith, literalWith, subtreeWith, resolved}
 use Rattle.decode.specs.Judge.{rowFrom, rowOf}
-use Rattle.decode.specs.Decode.{treeAnswer, decodedAt, decoded, shownAs}
+use Rattle.decode.specs.Decode.{treeAnswer, readIn, decoded, shownAs}
+use Rattle.tree.specs.Mode.{limitsOf, modeOf, Whole}
+use Rattle.tree.specs.declared.limits.Limits.{Limits}
 use Rattle.tree.specs.declared.raw.ChildrenBytes.{ChildrenBytes}
 use Rattle.tree.specs.declared.raw.Descendants.{Descendants}
 use Rattle.tree.specs.declared.raw.RawPunct.{RawPunct}
@@ -32,14 +35,6 @@ use Rattle.tree.specs.declared.raw.RawTree.{RawTree}
 use Rattle.tree.specs.declared.raw.RawTree.the-variants.{Punct, Ident, Literal, Subtree}
 use Rattle.tree.specs.declared.raw.RawRead.{RawRead}
 use Rattle.tree.specs.declared.raw.RawRead.the-variants as raws
-use Rattle.tree.specs.declared.kinds.SpacingRead.{SpacingRead}
-use Rattle.tree.specs.declared.kinds.SpacingRead.the-variants as spacings
-use Rattle.tree.specs.declared.kinds.IsRawRead.{IsRawRead}
-use Rattle.tree.specs.declared.kinds.IsRawRead.the-variants as is-raws
-use Rattle.tree.specs.declared.kinds.DelimiterRead.{DelimiterRead}
-use Rattle.tree.specs.declared.kinds.DelimiterRead.the-variants as delimiters
-use Rattle.tree.specs.declared.kinds.LitKindRead.{LitKindRead}
-use Rattle.tree.specs.declared.kinds.LitKindRead.the-variants as kinds
 use Rattle.tree.specs.declared.types.Span.{Span}
 use Rattle.tree.specs.declared.types.Spacing.{Spacing}
 use Rattle.tree.specs.declared.types.IdentIsRaw.{IdentIsRaw}
@@ -52,99 +47,38 @@ use Rattle.tree.specs.declared.types.TokenTree.{TokenTree}
 use Rattle.tree.specs.declared.types.TokenTree.the-variants as trees
 use Rattle.decode.specs.declared.decode.TreeRead.{TreeRead}
 use Rattle.decode.specs.declared.decode.TreeRead.the-variants.{Got, Refused}
-use Rattle.tree.proofs.KindsUse.{spacing-got, spacing-never, is-raw-got, is-raw-never, delimiter-got, delimiter-never, kind-got, kind-never}
+use Rattle.tree.proofs.OwnMode.{pairOf, own-whole, own-mode}
 use Rattle.decode.proofs.ReadUse.{reply-bad, raw-read, raw-fits}
 use Rattle.decode.proofs.JudgeReturns.{row-formed, bad-judged, row-judged}
 
 -- ---- entries
 
-pub entry-span : (p : List ℕ) (s : PackedSpan) (i : ℕ) → i ≡ s .index
-    → _≡_ {A = Span} (record { file = getD p (3 * i) 0; «ast_id» = getD p (3 * i + 1) 0; context = getD p (3 * i + 2) 0; start = s .start; len = s .len }) (spanWith p (spanOf s))
-entry-span p s i e = rw e
+pub entry-span : (t : List ℕ) (s : PackedSpan) (i : ℕ)
+    → _≡_ {A = Span} (record { file = getD t (partSize * i) 0; «ast_id» = getD t (partSize * i + 1) 0; context = getD t (partSize * i + 2) 0; start = s .start; len = s .len })
+    (spanWith (partAt t i) (spanOf s))
+entry-span t s i = refl
 
 pub entry-symbol : (p : List ℕ) (i j : ℕ) → i ≡ j → getD p i 0 ≡ getD p j 0
 entry-symbol p i j e = rw e
 
-module _ (parts : List ℕ) (q : PackedSpan) (s : Span) (e : s ≡ spanWith parts (spanOf q)) where
-  pub leaf-punct : (c x : ℕ) (y : Spacing) → y ≡ spacingOf x → leaves.Punct (record { char = c; spacing = y; span = s }) ≡ punctWith parts (spanOf q) c x
-  leaf-punct c x y f = rw (e, f)
+pub entry-room : (n a i : ℕ) → a ≡ i → partSize * i + partSize ≤ n → partSize * a + partSize ≤ n
+entry-room n a i e h = rw e h
 
-  module _ (symbols : List ℕ) (i j : ℕ) (g : j ≡ getD symbols i 0) where
-    pub leaf-ident : (r : ℕ) (y : IdentIsRaw) → y ≡ isRawOf r → leaves.Ident (record { sym = j; span = s; «is_raw» = y }) ≡ identWith parts symbols (spanOf q) i r
-    leaf-ident r y f = rw (e, f, g)
+module _ (t : List ℕ) (a i : ℕ) (d : a ≡ i) (q : PackedSpan) (s : Span) (e : s ≡ spanWith (partAt t a) (spanOf q)) where
+  pub leaf-punct : (c x : ℕ) (y : Spacing) → y ≡ spacingOf x → leaves.Punct (record { char = c; spacing = y; span = s }) ≡ punctWith (partAt t i) (spanOf q) c x
+  leaf-punct c x y f = rw (e, d, f)
 
-    pub leaf-literal : (k r x : ℕ) (y : LitKind) → y ≡ litKindOf k r
-        → leaves.Literal (record { «text_and_suffix» = j; span = s; kind = y; «suffix_len» = x }) ≡ literalWith parts symbols (spanOf q) i k r x
-    leaf-literal k r x y f = rw (e, f, g)
+  module _ (symbols : List ℕ) (k j : ℕ) (g : j ≡ getD symbols k 0) where
+    pub leaf-ident : (r : ℕ) (y : IdentIsRaw) → y ≡ isRawOf r → leaves.Ident (record { sym = j; span = s; «is_raw» = y }) ≡ identWith (partAt t i) symbols (spanOf q) k r
+    leaf-ident r y f = rw (e, d, f, g)
 
-  pub whole-subtree : (o : PackedSpan) (t : Span) (n : Descendants) (d : ℕ) (y : DelimiterKind) → t ≡ spanWith parts (spanOf o) → y ≡ delimiterOf d
-      → _≡_ {A = types.Subtree} (record { opening = s; closing = t; len = n; kind = y }) (subtreeWith parts (spanOf q) (spanOf o) (n .0) d)
-  whole-subtree o t n d y f g = rw (e, f, g)
+    pub leaf-literal : (z r x : ℕ) (y : LitKind) → y ≡ litKindOf z r
+        → leaves.Literal (record { «text_and_suffix» = j; span = s; kind = y; «suffix_len» = x }) ≡ literalWith (partAt t i) symbols (spanOf q) k z r x
+    leaf-literal z r x y f = rw (e, d, f, g)
 
-pub ruleset entry-cases = (entry-span, entry-symbol, leaf-punct, leaf-ident, leaf-literal, whole-subtree)
-
--- ---- an index that passes its row lies in its table
-
-below : (i n : ℕ) → ltb (i + 2) n ≡ true → i < n
-below i n e = let h : i + 2 < n = ltb-true (i + 2) n e in omega arith
-
-root : (i n : ℕ) → eqb (i + 2) n ≡ true → i < n
-root i n e = let h : i + 2 ≡ n = eqb-true (i + 2) n e in omega arith
-
-root′ : (i n : ℕ) → eqb (i + 1) n ≡ true → i < n
-root′ i n e = let h : i + 1 ≡ n = eqb-true (i + 1) n e in omega arith
-
-module _ (n at next : ℕ) (x y : Bool) (row : ℕ) (j : row ≡ rowFrom n at next x y) (l : row ≡ 0) where
-  -- row 0 is that of a root with a root's indices, or of another tree with that one's
-  row-zero : (x ≡ true) ⊎ (y ≡ true)
-  unfolding rowFrom
-  row-zero = go (formed n at next) (eqb n 0) x y refl refl refl refl (sym j ∙ l)
-    where
-      no : {A : Type 0} (k : ℕ) → 0 < k → k ≡ 0 → A
-      no k h e = absurd (omega arith)
-
-      go : (f z u v : Bool) → formed n at next ≡ f → eqb n 0 ≡ z → x ≡ u → y ≡ v → rowFrom n at next x y ≡ 0 → (x ≡ true) ⊎ (y ≡ true)
-      go f z true v a b c d e = inl c
-      go f z false true a b c d e = inr d
-      go false z false false a b c d e = let k : _≡_ {A = ℕ} 2 0 = simp a at e in no 2 (omega arith) k
-      go true true false false a b c d e =
-          let m : _≡_ {A = ℕ} (if (if eqb n 0 then x else y) then 0 else 8) 0 = sym (row-formed n at next x y a) ∙ e in
-          let k : _≡_ {A = ℕ} 8 0 = simp (b, c) at m in
-          no 8 (omega arith) k
-      go true false false false a b c d e =
-          let m : _≡_ {A = ℕ} (if (if eqb n 0 then x else y) then 0 else 8) 0 = sym (row-formed n at next x y a) ∙ e in
-          let k : _≡_ {A = ℕ} 8 0 = simp (b, d) at m in
-          no 8 (omega arith) k
-
-module _ (n at next row : ℕ) (y : Bool) (j : row ≡ rowFrom n at next false y) (l : row ≡ 0) where
-  leaf-zero : y ≡ true
-  leaf-zero = ⊎-elim (λ e. true-false false e refl) (λ e. e) (row-zero n at next false y row j l)
-
-module _ (n at next row P : ℕ) (l : row ≡ 0) where
-  pub punct-part : (i : ℕ) → row ≡ rowFrom n at next false (ltb (i + 2) P) → i < P
-  punct-part i j = below i P (leaf-zero n at next row (ltb (i + 2) P) j l)
-
-  module _ (S i k : ℕ) (j : row ≡ rowFrom n at next false (ltb (i + 2) P && ltb k S)) where
-    symbol-zero : (ltb (i + 2) P && ltb k S) ≡ true
-    symbol-zero = leaf-zero n at next row (ltb (i + 2) P && ltb k S) j l
-
-    pub symbol-part : i < P
-    symbol-part = below i P (and-left (ltb (i + 2) P) (ltb k S) symbol-zero)
-
-    pub symbol-symbol : k < S
-    symbol-symbol = ltb-true k S (and-right (ltb (i + 2) P) (ltb k S) symbol-zero)
-
-  module _ (i k : ℕ) (j : row ≡ rowFrom n at next (eqb (i + 2) P && eqb (k + 1) P) (ltb (i + 2) P && ltb (k + 2) P)) where
-    two-zero : ((eqb (i + 2) P && eqb (k + 1) P) ≡ true) ⊎ ((ltb (i + 2) P && ltb (k + 2) P) ≡ true)
-    two-zero = row-zero n at next (eqb (i + 2) P && eqb (k + 1) P) (ltb (i + 2) P && ltb (k + 2) P) row j l
-
-    pub open-part : i < P
-    open-part =
-        ⊎-elim (λ e. root i P (and-left (eqb (i + 2) P) (eqb (k + 1) P) e)) (λ e. below i P (and-left (ltb (i + 2) P) (ltb (k + 2) P) e)) two-zero
-
-    pub close-part : k < P
-    close-part =
-        ⊎-elim (λ e. root′ k P (and-right (eqb (i + 2) P) (eqb (k + 1) P) e)) (λ e. below k P (and-right (ltb (i + 2) P) (ltb (k + 2) P) e)) two-zero
+pub whole-subtree : (p q : Part) (u o : PackedSpan) (s t : Span) (n : Descendants) (d : ℕ) (y : DelimiterKind) → s ≡ spanWith p (spanOf u) → t ≡ spanWith q (spanOf o)
+    → y ≡ delimiterOf d → _≡_ {A = types.Subtree} (record { opening = s; closing = t; len = n; kind = y }) (subtreeWith p q (spanOf u) (spanOf o) (n .0) d)
+whole-subtree p q u o s t n d y e f g = rw (e, f, g)
 
 -- ---- a field that row 2 has passed
 
@@ -167,109 +101,204 @@ count-in p f =
 pub subtree-in : (p : RawSubtree) → fields (subtreeRaw p) ≡ true → p .kind ≤ 3
 subtree-in p f = leb-true (p .kind) 3 (and-right (spanFits (spanOf (p .opening)) && spanFits (spanOf (p .closing))) (leb (p .kind) 3) f)
 
--- the answer of its match is the kind, and never the refusal
-module _ (p : RawPunct) (f : fields (punctRaw p) ≡ true) (a : SpacingRead) (e : a ≡ spacingAnswer (p .spacing)) where
-  pub punct-kind : (y : Spacing) → a ≡ spacings.Got y → y ≡ spacingOf (p .spacing)
-  punct-kind y q = spacing-got (p .spacing) (punct-in p f) a e y q
+pub ruleset entry-cases = (
+  entry-span,
+  entry-symbol,
+  entry-room,
+  leaf-punct,
+  leaf-ident,
+  leaf-literal,
+  whole-subtree,
+  punct-in,
+  ident-in,
+  literal-in,
+  subtree-in,
+)
 
-  pub punct-never : (parts symbols : List ℕ) (n at next kids k : ℕ) → a ≡ spacings.Bad k → Refused k ≡ treeAnswer (shownAs parts symbols n at next kids (punctRaw p))
-  punct-never parts symbols n at next kids k q = spacing-never (p .spacing) (punct-in p f) a e k q
+-- ---- an index that passes its row lies in its table
 
-module _ (p : RawIdent) (f : fields (identRaw p) ≡ true) (a : IsRawRead) (e : a ≡ isRawAnswer (p .raw)) where
-  pub ident-kind : (y : IdentIsRaw) → a ≡ is-raws.Got y → y ≡ isRawOf (p .raw)
-  ident-kind y q = is-raw-got (p .raw) (ident-in p f) a e y q
+module _ (n at next row : ℕ) (x y : Bool) (j : row ≡ rowFrom n at next x y) (l : row ≡ 0) where
+  no : {A : Type 0} (k : ℕ) → 0 < k → k ≡ 0 → A
+  no k h e = absurd (omega arith)
 
-  pub ident-never : (parts symbols : List ℕ) (n at next kids k : ℕ) → a ≡ is-raws.Bad k → Refused k ≡ treeAnswer (shownAs parts symbols n at next kids (identRaw p))
-  ident-never parts symbols n at next kids k q = is-raw-never (p .raw) (ident-in p f) a e k q
+  -- row 0 is that of a root with a root's indices, or of another tree with that one's
+  row-zero : (if eqb n 0 then x else y) ≡ true
+  unfolding rowFrom
+  row-zero = go (formed n at next) (if eqb n 0 then x else y) refl refl (sym j ∙ l)
+    where
+      go : (f z : Bool) → formed n at next ≡ f → (if eqb n 0 then x else y) ≡ z → rowFrom n at next x y ≡ 0 → (if eqb n 0 then x else y) ≡ true
+      go f true a c e = c
+      go false false a c e = let k : _≡_ {A = ℕ} 2 0 = simp a at e in no 2 (omega arith) k
+      go true false a c e =
+          let m : _≡_ {A = ℕ} (if (if eqb n 0 then x else y) then 0 else 8) 0 = sym (row-formed n at next x y a) ∙ e in
+          let k : _≡_ {A = ℕ} 8 0 = rw c at m in
+          no 8 (omega arith) k
 
-module _ (p : RawLiteral) (f : fields (literalRaw p) ≡ true) (a : LitKindRead) (e : a ≡ litKindAnswer (p .kind) (p .«raw_count»)) where
-  pub literal-kind : (y : LitKind) → a ≡ kinds.Got y → y ≡ litKindOf (p .kind) (p .«raw_count»)
-  literal-kind y q = kind-got (p .kind) (p .«raw_count») (literal-in p f) (count-in p f) a e y q
+  root-zero : n ≡ 0 → x ≡ true
+  root-zero h = simp (eq-eqb n 0 h) at row-zero
 
-  pub literal-never : (parts symbols : List ℕ) (n at next kids k : ℕ) → a ≡ kinds.Bad k → Refused k ≡ treeAnswer (shownAs parts symbols n at next kids (literalRaw p))
-  literal-never parts symbols n at next kids k q = kind-never (p .kind) (p .«raw_count») (literal-in p f) (count-in p f) a e k q
+  below-zero : (n ≡ 0 → ⊥) → y ≡ true
+  below-zero h = simp (ne-eqb n 0 h) at row-zero
 
-module _ (p : RawSubtree) (f : fields (subtreeRaw p) ≡ true) (a : DelimiterRead) (e : a ≡ delimiterAnswer (p .kind)) where
-  pub subtree-kind : (y : DelimiterKind) → a ≡ delimiters.Got y → y ≡ delimiterOf (p .kind)
-  subtree-kind y q = delimiter-got (p .kind) (subtree-in p f) a e y q
+-- a leaf is never a root
+module _ (n at next row : ℕ) (y : Bool) (j : row ≡ rowFrom n at next false y) (l : row ≡ 0) where
+  leaf-below : n ≡ 0 → ⊥
+  leaf-below h = true-false false (root-zero n at next row false y j l h) refl
 
-  pub subtree-never : (parts symbols : List ℕ) (n at next kids k : ℕ) → a ≡ delimiters.Bad k → Refused k ≡ treeAnswer (shownAs parts symbols n at next kids (subtreeRaw p))
-  subtree-never parts symbols n at next kids k q = delimiter-never (p .kind) (subtree-in p f) a e k q
+  leaf-zero : y ≡ true
+  leaf-zero = below-zero n at next row false y j l leaf-below
 
--- ---- a tree that was read
+module _ (N : Limits) (parts pair symbols : List ℕ) (w : Whole N parts pair symbols) where
+  abbrev M : Mode
+  M = modeOf N parts pair symbols
 
-module _ (parts symbols : List ℕ) (n at next : ℕ) (kids : ChildrenBytes) (row : ℕ) where
-  module _ (t : Raw) (f : fields t ≡ true) (j : row ≡ rowOf (length parts / 3) (length symbols) n at next t) where
-    by-row : shownAs parts symbols n at next (kids .0) t ≡ unless row (got (resolved parts symbols t) next (kids .0))
-    unfolding shownAs
-    by-row = rw j (row-judged (λ m t. resolved parts symbols t) (rules (ownTables parts symbols)) n at (length parts / 3) (length symbols) (λ t. refl) t next (kids .0) f)
+  room : (i : ℕ) → ltb i (N .limit) ≡ true → partSize * i + partSize ≤ length parts
+  room i e =
+      let h = ltb-true i (N .limit) e in
+      let k = w .below in
+      omega arith
 
-    refused : (row ≡ 0 → ⊥) → Refused row ≡ treeAnswer (shownAs parts symbols n at next (kids .0) t)
-    unfolding treeAnswer
-    refused l = rw by-row (simp (ne-eqb _ _ l))
+  pub pair-open : partSize * 0 + partSize ≤ length pair
+  pair-open = let k = w .two in omega arith
 
-    found : row ≡ 0 → (u : TokenTree) → u ≡ resolved parts symbols t → Got (record { tree = u; next = next; children = kids }) ≡ treeAnswer (shownAs parts symbols n at next (kids .0) t)
-    unfolding treeAnswer
-    found l u q = rw (by-row, l, q)
+  pub pair-close : partSize * 1 + partSize ≤ length pair
+  pair-close = let k = w .two in omega arith
 
-  module _ (p : RawPunct) (f : fields (punctRaw p) ≡ true) (j : row ≡ rowFrom n at next false (ltb (p .span .index + 2) (length parts / 3))) where
-    pub punct-refused : (row ≡ 0 → ⊥) → Refused row ≡ treeAnswer (shownAs parts symbols n at next (kids .0) (punctRaw p))
-    punct-refused l = refused (punctRaw p) f j l
+  module _ (n at next : ℕ) (row : ℕ) (l : row ≡ 0) where
+    pub punct-part : (i : ℕ) → row ≡ rowFrom n at next false (ltb i (N .limit)) → partSize * i + partSize ≤ length parts
+    punct-part i j = room i (leaf-zero n at next row (ltb i (N .limit)) j l)
 
-    pub punct-found : row ≡ 0 → (y : Leaf) → y ≡ punctWith parts (spanOf (p .span)) (p .char) (p .spacing)
-        → Got (record { tree = trees.Leaf y; next = next; children = kids }) ≡ treeAnswer (shownAs parts symbols n at next (kids .0) (punctRaw p))
-    unfolding resolved
-    punct-found l y q = found (punctRaw p) f j l (trees.Leaf y) (ap trees.Leaf q)
+    module _ (i k : ℕ) (j : row ≡ rowFrom n at next false (ltb i (N .limit) && ltb k (N .symbols))) where
+      both : (ltb i (N .limit) && ltb k (N .symbols)) ≡ true
+      both = leaf-zero n at next row (ltb i (N .limit) && ltb k (N .symbols)) j l
 
-  module _ (p : RawIdent) (f : fields (identRaw p) ≡ true) (j : row ≡ rowFrom n at next false (ltb (p .span .index + 2) (length parts / 3) && ltb (p .symbol) (length symbols))) where
-    pub ident-refused : (row ≡ 0 → ⊥) → Refused row ≡ treeAnswer (shownAs parts symbols n at next (kids .0) (identRaw p))
-    ident-refused l = refused (identRaw p) f j l
+      pub symbol-part : partSize * i + partSize ≤ length parts
+      symbol-part = room i (and-left (ltb i (N .limit)) (ltb k (N .symbols)) both)
 
-    pub ident-found : row ≡ 0 → (y : Leaf) → y ≡ identWith parts symbols (spanOf (p .span)) (p .symbol) (p .raw)
-        → Got (record { tree = trees.Leaf y; next = next; children = kids }) ≡ treeAnswer (shownAs parts symbols n at next (kids .0) (identRaw p))
-    unfolding resolved
-    ident-found l y q = found (identRaw p) f j l (trees.Leaf y) (ap trees.Leaf q)
+      pub symbol-symbol : k < length symbols
+      symbol-symbol =
+          let h = ltb-true k (N .symbols) (and-right (ltb i (N .limit)) (ltb k (N .symbols)) both) in
+          let m = w .many in
+          omega arith
 
-  module _ (p : RawLiteral) (f : fields (literalRaw p) ≡ true) (j : row ≡ rowFrom n at next false (ltb (p .span .index + 2) (length parts / 3) && ltb (p .symbol) (length symbols))) where
-    pub literal-refused : (row ≡ 0 → ⊥) → Refused row ≡ treeAnswer (shownAs parts symbols n at next (kids .0) (literalRaw p))
-    literal-refused l = refused (literalRaw p) f j l
+    module _ (i k : ℕ) (j : row ≡ rowFrom n at next (eqb i (N .root) && eqb k (N .root + 1)) (ltb i (N .limit) && ltb k (N .limit))) (z : n ≡ 0 → ⊥) where
+      two : (ltb i (N .limit) && ltb k (N .limit)) ≡ true
+      two = below-zero n at next row (eqb i (N .root) && eqb k (N .root + 1)) (ltb i (N .limit) && ltb k (N .limit)) j l z
 
-    pub literal-found : row ≡ 0 → (y : Leaf) → y ≡ literalWith parts symbols (spanOf (p .span)) (p .symbol) (p .kind) (p .«raw_count») (p .«suffix_len»)
-        → Got (record { tree = trees.Leaf y; next = next; children = kids }) ≡ treeAnswer (shownAs parts symbols n at next (kids .0) (literalRaw p))
-    unfolding resolved
-    literal-found l y q = found (literalRaw p) f j l (trees.Leaf y) (ap trees.Leaf q)
+      pub open-part : (a : ℕ) → a ≡ i → partSize * a + partSize ≤ length parts
+      open-part a e = rw e (room i (and-left (ltb i (N .limit)) (ltb k (N .limit)) two))
 
-  module _ (p : RawSubtree) (f : fields (subtreeRaw p) ≡ true) (j : row ≡ rowFrom n at next
-      (eqb (p .opening .index + 2) (length parts / 3) && eqb (p .closing .index + 1) (length parts / 3))
-      (ltb (p .opening .index + 2) (length parts / 3) && ltb (p .closing .index + 2) (length parts / 3))) where
-    pub subtree-refused : (row ≡ 0 → ⊥) → Refused row ≡ treeAnswer (shownAs parts symbols n at next (kids .0) (subtreeRaw p))
-    subtree-refused l = refused (subtreeRaw p) f j l
+      pub close-part : (a : ℕ) → a ≡ k → partSize * a + partSize ≤ length parts
+      close-part a e = rw e (room k (and-right (ltb i (N .limit)) (ltb k (N .limit)) two))
 
-    pub subtree-found : row ≡ 0 → (y : types.Subtree) → y ≡ subtreeWith parts (spanOf (p .opening)) (spanOf (p .closing)) (p .len .0) (p .kind)
-        → Got (record { tree = trees.Subtree y; next = next; children = kids }) ≡ treeAnswer (shownAs parts symbols n at next (kids .0) (subtreeRaw p))
-    unfolding resolved
-    subtree-found l y q = found (subtreeRaw p) f j l (trees.Subtree y) (ap trees.Subtree q)
+  -- ---- a tree that was read
+
+  module _ (n at next : ℕ) (kids : ChildrenBytes) (row : ℕ) where
+    module _ (t : Raw) (f : fields t ≡ true) (j : row ≡ rowOf (limitsOf N) n at next t) where
+      by-row : shownAs M n at next (kids .0) t ≡ unless row (got (resolved M n t) next (kids .0))
+      unfolding shownAs
+      by-row =
+          rw j
+          (row-judged (resolved M) (rules (modeTables M)) n at (limitsOf N)
+          (λ u. ap (λ (k : ℕ). rowEight (record { limit = N .limit; root = N .root; symbols = k }) n u) (sym (w .many))) t next (kids .0) f)
+
+      refused : (row ≡ 0 → ⊥) → Refused row ≡ treeAnswer (shownAs M n at next (kids .0) t)
+      unfolding treeAnswer
+      refused l = rw by-row (simp (ne-eqb _ _ l))
+
+      found : row ≡ 0 → (u : TokenTree) → u ≡ resolved M n t → Got (record { tree = u; next = next; children = kids }) ≡ treeAnswer (shownAs M n at next (kids .0) t)
+      unfolding treeAnswer
+      found l u q = rw (by-row, l, q)
+
+    -- below the root an index leads into the table of parts
+    below-entry : (n ≡ 0 → ⊥) → (i : ℕ) → partAt parts i ≡ entryAt M n i
+    below-entry z i = simp (ne-eqb n 0 z)
+
+    module _ (p : RawPunct) (f : fields (punctRaw p) ≡ true) (j : row ≡ rowFrom n at next false (ltb (p .span .index) (N .limit))) where
+      pub punct-refused : (row ≡ 0 → ⊥) → Refused row ≡ treeAnswer (shownAs M n at next (kids .0) (punctRaw p))
+      punct-refused l = refused (punctRaw p) f j l
+
+      pub punct-found : row ≡ 0 → (y : Leaf) → y ≡ punctWith (partAt parts (p .span .index)) (spanOf (p .span)) (p .char) (p .spacing)
+          → Got (record { tree = trees.Leaf y; next = next; children = kids }) ≡ treeAnswer (shownAs M n at next (kids .0) (punctRaw p))
+      unfolding resolved
+      punct-found l y q =
+          let e = below-entry (leaf-below n at next row _ j l) (p .span .index) in
+          found (punctRaw p) f j l (trees.Leaf y) (ap trees.Leaf (q ∙ ap (λ u. punctWith u (spanOf (p .span)) (p .char) (p .spacing)) e))
+
+    module _ (p : RawIdent) (f : fields (identRaw p) ≡ true) (j : row ≡ rowFrom n at next false (ltb (p .span .index) (N .limit) && ltb (p .symbol) (N .symbols))) where
+      pub ident-refused : (row ≡ 0 → ⊥) → Refused row ≡ treeAnswer (shownAs M n at next (kids .0) (identRaw p))
+      ident-refused l = refused (identRaw p) f j l
+
+      pub ident-found : row ≡ 0 → (y : Leaf) → y ≡ identWith (partAt parts (p .span .index)) symbols (spanOf (p .span)) (p .symbol) (p .raw)
+          → Got (record { tree = trees.Leaf y; next = next; children = kids }) ≡ treeAnswer (shownAs M n at next (kids .0) (identRaw p))
+      unfolding resolved
+      ident-found l y q =
+          let e = below-entry (leaf-below n at next row _ j l) (p .span .index) in
+          found (identRaw p) f j l (trees.Leaf y) (ap trees.Leaf (q ∙ ap (λ u. identWith u symbols (spanOf (p .span)) (p .symbol) (p .raw)) e))
+
+    module _ (p : RawLiteral) (f : fields (literalRaw p) ≡ true) (j : row ≡ rowFrom n at next false (ltb (p .span .index) (N .limit) && ltb (p .symbol) (N .symbols))) where
+      pub literal-refused : (row ≡ 0 → ⊥) → Refused row ≡ treeAnswer (shownAs M n at next (kids .0) (literalRaw p))
+      literal-refused l = refused (literalRaw p) f j l
+
+      pub literal-found : row ≡ 0 → (y : Leaf) → y ≡ literalWith (partAt parts (p .span .index)) symbols (spanOf (p .span)) (p .symbol) (p .kind) (p .«raw_count») (p .«suffix_len»)
+          → Got (record { tree = trees.Leaf y; next = next; children = kids }) ≡ treeAnswer (shownAs M n at next (kids .0) (literalRaw p))
+      unfolding resolved
+      literal-found l y q =
+          let e = below-entry (leaf-below n at next row _ j l) (p .span .index) in
+          found (literalRaw p) f j l (trees.Leaf y)
+          (ap trees.Leaf (q ∙ ap (λ u. literalWith u symbols (spanOf (p .span)) (p .symbol) (p .kind) (p .«raw_count») (p .«suffix_len»)) e))
+
+    module _ (p : RawSubtree) (f : fields (subtreeRaw p) ≡ true) (j : row ≡ rowFrom n at next
+        (eqb (p .opening .index) (N .root) && eqb (p .closing .index) (N .root + 1))
+        (ltb (p .opening .index) (N .limit) && ltb (p .closing .index) (N .limit))) where
+      pub subtree-refused : (row ≡ 0 → ⊥) → Refused row ≡ treeAnswer (shownAs M n at next (kids .0) (subtreeRaw p))
+      subtree-refused l = refused (subtreeRaw p) f j l
+
+      abbrev of : Part → Part → types.Subtree
+      of o c = subtreeWith o c (spanOf (p .opening)) (spanOf (p .closing)) (p .len .0) (p .kind)
+
+      module _ (l : row ≡ 0) (y : types.Subtree) where
+        -- the root's two stand in the pair
+        pub root-found : n ≡ 0 → y ≡ subtreeWith (partAt pair 0) (partAt pair 1) (spanOf (p .opening)) (spanOf (p .closing)) (p .len .0) (p .kind)
+            → Got (record { tree = trees.Subtree y; next = next; children = kids }) ≡ treeAnswer (shownAs M n at next (kids .0) (subtreeRaw p))
+        unfolding resolved
+        root-found z q =
+            let x = root-zero n at next row _ _ j l z in
+            let a = eqb (p .opening .index) (N .root) in
+            let b = eqb (p .closing .index) (N .root + 1) in
+            let i = eqb-true (p .opening .index) (N .root) (and-left a b x) in
+            let k = eqb-true (p .closing .index) (N .root + 1) (and-right a b x) in
+            let d₀ : p .opening .index - N .root ≡ 0 = omega arith in
+            let d₁ : p .closing .index - N .root ≡ 1 = omega arith in
+            let g = eq-eqb n 0 z in
+            let o : partAt pair 0 ≡ entryAt M n (p .opening .index) = simp (g, d₀) in
+            let c : partAt pair 1 ≡ entryAt M n (p .closing .index) = simp (g, d₁) in
+            found (subtreeRaw p) f j l (trees.Subtree y) (ap trees.Subtree (q ∙ (λ u. of (o u) (c u))))
+
+        pub subtree-found : (n ≡ 0 → ⊥) → (a c : ℕ) → a ≡ p .opening .index → c ≡ p .closing .index
+            → y ≡ subtreeWith (partAt parts a) (partAt parts c) (spanOf (p .opening)) (spanOf (p .closing)) (p .len .0) (p .kind)
+            → Got (record { tree = trees.Subtree y; next = next; children = kids }) ≡ treeAnswer (shownAs M n at next (kids .0) (subtreeRaw p))
+        unfolding resolved
+        subtree-found z a c d e q =
+            let o = ap (partAt parts) d ∙ below-entry z (p .opening .index) in
+            let k = ap (partAt parts) e ∙ below-entry z (p .closing .index) in
+            found (subtreeRaw p) f j l (trees.Subtree y) (ap trees.Subtree (q ∙ (λ u. of (o u) (k u))))
 
 pub ruleset found-cases = (
+  pair-open,
+  pair-close,
   punct-part,
   symbol-part,
   symbol-symbol,
   open-part,
   punct-refused,
-  punct-kind,
-  punct-never,
   punct-found,
   ident-refused,
-  ident-kind,
-  ident-never,
   ident-found,
   literal-refused,
-  literal-kind,
-  literal-never,
   literal-found,
   subtree-refused,
-  subtree-kind,
-  subtree-never,
+  root-found,
   subtree-found,
 )
 
@@ -295,20 +324,20 @@ module _ (t : RawTree) (h : fields (rawOf t) ≡ true) where
   unfolding rawOf
   subtree-fits p e = subst (λ (u : RawTree). fields (rawOf u) ≡ true) e h
 
-module _ (parts symbols : List ℕ) (n at next kids : ℕ) (t : RawTree) (r : TreeRead) where
-  pub sort-punct : (p : RawPunct) → t ≡ Punct p → r ≡ treeAnswer (shownAs parts symbols n at next kids (punctRaw p)) → r ≡ treeAnswer (shownAs parts symbols n at next kids (rawOf t))
+module _ (M : Mode) (n at next kids : ℕ) (t : RawTree) (r : TreeRead) where
+  pub sort-punct : (p : RawPunct) → t ≡ Punct p → r ≡ treeAnswer (shownAs M n at next kids (punctRaw p)) → r ≡ treeAnswer (shownAs M n at next kids (rawOf t))
   unfolding rawOf
   sort-punct p e q = q ∙ rw e
 
-  pub sort-ident : (p : RawIdent) → t ≡ Ident p → r ≡ treeAnswer (shownAs parts symbols n at next kids (identRaw p)) → r ≡ treeAnswer (shownAs parts symbols n at next kids (rawOf t))
+  pub sort-ident : (p : RawIdent) → t ≡ Ident p → r ≡ treeAnswer (shownAs M n at next kids (identRaw p)) → r ≡ treeAnswer (shownAs M n at next kids (rawOf t))
   unfolding rawOf
   sort-ident p e q = q ∙ rw e
 
-  pub sort-literal : (p : RawLiteral) → t ≡ Literal p → r ≡ treeAnswer (shownAs parts symbols n at next kids (literalRaw p)) → r ≡ treeAnswer (shownAs parts symbols n at next kids (rawOf t))
+  pub sort-literal : (p : RawLiteral) → t ≡ Literal p → r ≡ treeAnswer (shownAs M n at next kids (literalRaw p)) → r ≡ treeAnswer (shownAs M n at next kids (rawOf t))
   unfolding rawOf
   sort-literal p e q = q ∙ rw e
 
-  pub sort-subtree : (p : RawSubtree) → t ≡ Subtree p → r ≡ treeAnswer (shownAs parts symbols n at next kids (subtreeRaw p)) → r ≡ treeAnswer (shownAs parts symbols n at next kids (rawOf t))
+  pub sort-subtree : (p : RawSubtree) → t ≡ Subtree p → r ≡ treeAnswer (shownAs M n at next kids (subtreeRaw p)) → r ≡ treeAnswer (shownAs M n at next kids (rawOf t))
   unfolding rawOf
   sort-subtree p e q = q ∙ rw e
 
@@ -316,32 +345,37 @@ pub ruleset sort-cases = (punct-fits, ident-fits, literal-fits, subtree-fits, so
 
 -- ---- tree n at a place
 
-module _ (b parts symbols : List ℕ) (n at : ℕ) (r : RawRead) (e : r ≡ rawAnswer (inRange (treeAt b at))) where
-  pub decode-bad : (k : ℕ) → r ≡ raws.Bad k → Refused k ≡ treeAnswer (decodedAt b parts symbols n at)
-  unfolding treeAnswer decodedAt
+module _ (b : List ℕ) (M : Mode) (n at : ℕ) (r : RawRead) (e : r ≡ rawAnswer (inRange (treeAt b at))) where
+  pub decode-bad : (k : ℕ) → r ≡ raws.Bad k → Refused k ≡ treeAnswer (readIn b M n at)
+  unfolding treeAnswer readIn
   decode-bad k q =
-      sym (ap treeAnswer
-      (bad-judged (λ m t. resolved parts symbols t) (rules (ownTables parts symbols)) n at (treeAt b at) k (reply-bad (inRange (treeAt b at)) r e k q)))
+      sym (ap treeAnswer (bad-judged (resolved M) (rules (modeTables M)) n at (treeAt b at) k (reply-bad (inRange (treeAt b at)) r e k q)))
 
   module _ (y : RawAt) (q : r ≡ raws.Got y) where
     pub decode-fits : fields (rawOf (y .tree)) ≡ true
     decode-fits = raw-fits b at r e y q
 
-    pub decode-found : (x : TreeRead) → x ≡ treeAnswer (shownAs parts symbols n at (y .next) (y .children .0) (rawOf (y .tree))) → x ≡ treeAnswer (decodedAt b parts symbols n at)
-    unfolding decodedAt shownAs
+    pub decode-found : (x : TreeRead) → x ≡ treeAnswer (shownAs M n at (y .next) (y .children .0) (rawOf (y .tree))) → x ≡ treeAnswer (readIn b M n at)
+    unfolding readIn shownAs
     decode-found x f = rw (raw-read b at r e y q) f
 
 pub ruleset decode-cases = (decode-bad, decode-fits, decode-found)
 
--- ---- behind row 1
+-- ---- document 01's mode, behind row 1
 
 module _ (b parts symbols : List ℕ) (n at : ℕ) (s : Bool) (e : s ≡ ownTables parts symbols .sized) where
   pub sizes-1 : not s ≡ true → Refused 1 ≡ treeAnswer (decoded b parts symbols n at)
   unfolding decoded treeAnswer
   sizes-1 h = let k : ownTables parts symbols .sized ≡ false = sym e ∙ not-true s h in rw k
 
-  pub sizes-silent : not s ≡ false → (r : TreeRead) → r ≡ treeAnswer (decodedAt b parts symbols n at) → r ≡ treeAnswer (decoded b parts symbols n at)
-  unfolding decoded
-  sizes-silent h r q = let k : ownTables parts symbols .sized ≡ true = sym e ∙ not-false s h in q ∙ rw k
+  module _ (h : not s ≡ false) (N : Limits) (d : limitsOf N ≡ ownLimits (length parts / partSize) (length symbols)) where
+    pub sizes-whole : Whole N parts (pairOf N parts) symbols
+    sizes-whole = own-whole parts symbols (sym e ∙ not-false s h) N d
 
-pub ruleset sized-cases = (sizes-1, sizes-silent)
+    pub sizes-silent : (r : TreeRead) → r ≡ treeAnswer (readIn b (modeOf N parts (pairOf N parts) symbols) n at) → r ≡ treeAnswer (decoded b parts symbols n at)
+    unfolding decoded
+    sizes-silent r q =
+        let k : ownTables parts symbols .sized ≡ true = sym e ∙ not-false s h in
+        q ∙ ap (λ (M : Mode). treeAnswer (readIn b M n at)) (own-mode parts symbols k N d) ∙ rw k
+
+pub ruleset sized-cases = (sizes-1, sizes-whole, sizes-silent)

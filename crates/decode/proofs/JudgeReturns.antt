@@ -10,9 +10,12 @@ use Rattle.format.specs.Test.{if_then_else_}
 use Rattle.format.specs.Reader.{Reply, got, bad}
 use Rattle.format.specs.Tree.{Raw, treeAt}
 use Rattle.format.specs.Fields.{fields}
-use Rattle.format.specs.Tables.{TableRules, rowEight, countRules}
+use Rattle.format.specs.Tables as format
+use Rattle.format.specs.Tables.{TableRules, rowEight}
 use Rattle.format.specs.Buffer.{formed, unless, judge}
 use Rattle.tree.specs.Raw.{rawOf, rawAnswer, inRange}
+use Rattle.tree.specs.Mode.{limitsOf}
+use Rattle.tree.specs.declared.limits.Limits.{Limits}
 use Rattle.tree.specs.declared.raw.RawPunct.{RawPunct}
 use Rattle.tree.specs.declared.raw.RawIdent.{RawIdent}
 use Rattle.tree.specs.declared.raw.RawLiteral.{RawLiteral}
@@ -22,23 +25,17 @@ use Rattle.tree.specs.declared.raw.RawTree.{RawTree}
 use Rattle.tree.specs.declared.raw.RawTree.the-variants.{Punct, Ident, Literal, Subtree}
 use Rattle.tree.specs.declared.raw.RawRead.{RawRead}
 use Rattle.tree.specs.declared.raw.RawRead.the-variants.{Got, Bad}
-use Rattle.decode.specs.Judge.{rowFrom, rowOf}
+use Rattle.decode.specs.Judge.{rowFrom, rowOf, limitRules}
 use Rattle.decode.proofs.ReadUse.{reply-bad, reply-got, raw-read, raw-fits}
 
 -- ---- indices
 
 module _ (i j m : ℕ) (e : i ≡ j) where
-  pub part-out : m ≤ i + 2 → false ≡ ltb (j + 2) m
-  part-out h = let k : m ≤ j + 2 = omega arith in simp (le-ltb _ _ k)
+  pub index-out : m ≤ i → false ≡ ltb j m
+  index-out h = let k : m ≤ j = omega arith in simp (le-ltb _ _ k)
 
-  pub part-here : i + 2 < m → true ≡ ltb (j + 2) m
-  part-here h = let k : j + 2 < m = omega arith in simp (lt-ltb _ _ k)
-
-  pub symbol-out : m ≤ i → false ≡ ltb j m
-  symbol-out h = let k : m ≤ j = omega arith in simp (le-ltb _ _ k)
-
-  pub symbol-here : i < m → true ≡ ltb j m
-  symbol-here h = let k : j < m = omega arith in simp (lt-ltb _ _ k)
+  pub index-here : i < m → true ≡ ltb j m
+  index-here h = let k : j < m = omega arith in simp (lt-ltb _ _ k)
 
 module _ (x y z : Bool) (e : y ≡ x) where
   pub both-out : not y ≡ true → false ≡ (x && z)
@@ -48,23 +45,23 @@ module _ (x y z : Bool) (e : y ≡ x) where
   both-here w f q = let d : x ≡ true = sym e ∙ not-false y f in q ∙ rw d
 
 module _ (i j k l m : ℕ) (e : i ≡ k) (f : j ≡ l) where
-  pub first-out : (i + 2 ≡ m → ⊥) → false ≡ (eqb (k + 2) m && eqb (l + 1) m)
-  first-out h = let d : k + 2 ≡ m → ⊥ = λ q. h (rw e q) in simp (ne-eqb _ _ d)
+  pub first-out : (i ≡ m → ⊥) → false ≡ (eqb k m && eqb l (m + 1))
+  first-out h = let d : k ≡ m → ⊥ = λ q. h (rw e q) in simp (ne-eqb _ _ d)
 
-  module _ (g : i + 2 ≡ m) where
-    pub second-out : (j + 1 ≡ m → ⊥) → false ≡ (eqb (k + 2) m && eqb (l + 1) m)
+  module _ (g : i ≡ m) where
+    pub second-out : (j ≡ i + 1 → ⊥) → false ≡ (eqb k m && eqb l (m + 1))
     second-out h =
-        let d : l + 1 ≡ m → ⊥ = λ q. h (rw f q) in
-        let d₂ : k + 2 ≡ m = omega arith in
+        let d : l ≡ m + 1 → ⊥ = λ q. h (omega arith) in
+        let d₂ : k ≡ m = omega arith in
         simp (eq-eqb _ _ d₂, ne-eqb _ _ d)
 
-    pub roots-here : j + 1 ≡ m → true ≡ (eqb (k + 2) m && eqb (l + 1) m)
+    pub roots-here : j ≡ i + 1 → true ≡ (eqb k m && eqb l (m + 1))
     roots-here h =
-        let d : l + 1 ≡ m = omega arith in
-        let d₂ : k + 2 ≡ m = omega arith in
+        let d : l ≡ m + 1 = omega arith in
+        let d₂ : k ≡ m = omega arith in
         simp (eq-eqb _ _ d₂, eq-eqb _ _ d)
 
-pub ruleset index-cases = (part-out, part-here, symbol-out, symbol-here, both-out, both-here, first-out, second-out, roots-here)
+pub ruleset index-cases = (index-out, index-here, both-out, both-here, first-out, second-out, roots-here)
 
 -- ---- the root's form
 
@@ -122,24 +119,24 @@ module _ (n at next : ℕ) (root below : Bool) where
 
 -- ---- and by its sort
 
-module _ (parts symbols n at next : ℕ) (t : RawTree) (r : ℕ) where
-  pub row-of-punct : (p : RawPunct) → t ≡ Punct p → r ≡ rowFrom n at next false (ltb (p .span .index + 2) parts) → r ≡ rowOf parts symbols n at next (rawOf t)
+module _ (N : Limits) (n at next : ℕ) (t : RawTree) (r : ℕ) where
+  pub row-of-punct : (p : RawPunct) → t ≡ Punct p → r ≡ rowFrom n at next false (ltb (p .span .index) (N .limit)) → r ≡ rowOf (limitsOf N) n at next (rawOf t)
   unfolding rawOf
   row-of-punct p e q = q ∙ rw e
 
-  pub row-of-ident : (p : RawIdent) → t ≡ Ident p → r ≡ rowFrom n at next false (ltb (p .span .index + 2) parts && ltb (p .symbol) symbols)
-      → r ≡ rowOf parts symbols n at next (rawOf t)
+  pub row-of-ident : (p : RawIdent) → t ≡ Ident p → r ≡ rowFrom n at next false (ltb (p .span .index) (N .limit) && ltb (p .symbol) (N .symbols))
+      → r ≡ rowOf (limitsOf N) n at next (rawOf t)
   unfolding rawOf
   row-of-ident p e q = q ∙ rw e
 
-  pub row-of-literal : (p : RawLiteral) → t ≡ Literal p → r ≡ rowFrom n at next false (ltb (p .span .index + 2) parts && ltb (p .symbol) symbols)
-      → r ≡ rowOf parts symbols n at next (rawOf t)
+  pub row-of-literal : (p : RawLiteral) → t ≡ Literal p → r ≡ rowFrom n at next false (ltb (p .span .index) (N .limit) && ltb (p .symbol) (N .symbols))
+      → r ≡ rowOf (limitsOf N) n at next (rawOf t)
   unfolding rawOf
   row-of-literal p e q = q ∙ rw e
 
   pub row-of-subtree : (p : RawSubtree) → t ≡ Subtree p
-      → r ≡ rowFrom n at next (eqb (p .opening .index + 2) parts && eqb (p .closing .index + 1) parts) (ltb (p .opening .index + 2) parts && ltb (p .closing .index + 2) parts)
-      → r ≡ rowOf parts symbols n at next (rawOf t)
+      → r ≡ rowFrom n at next (eqb (p .opening .index) (N .root) && eqb (p .closing .index) (N .root + 1)) (ltb (p .opening .index) (N .limit) && ltb (p .closing .index) (N .limit))
+      → r ≡ rowOf (limitsOf N) n at next (rawOf t)
   unfolding rawOf
   row-of-subtree p e q = q ∙ rw e
 
@@ -167,31 +164,31 @@ module _ {A : Type 0} (show : ℕ → Raw → A) (T : TableRules) (n at : ℕ) w
       go false false f g = let d : bad 2 ≡ bad k = simp f at e in simp (f, g) (ap (shown (show n)) d)
 
   -- a tree that was read is judged by its row
-  module _ (parts symbols : ℕ) (same : (t : Raw) → T .judged n t ≡ rowEight parts symbols n t) (t : Raw) (next kids : ℕ) (f : fields t ≡ true) where
-    pub row-judged : judge show T n at (got t next kids) ≡ unless (rowOf parts symbols n at next t) (got (show n t) next kids)
+  module _ (N : format.Limits) (same : (t : Raw) → T .judged n t ≡ rowEight N n t) (t : Raw) (next kids : ℕ) (f : fields t ≡ true) where
+    pub row-judged : judge show T n at (got t next kids) ≡ unless (rowOf N n at next t) (got (show n t) next kids)
     unfolding judge rowFrom
     row-judged = go (formed n at next) refl
       where
-        go : (x : Bool) → formed n at next ≡ x → judge show T n at (got t next kids) ≡ unless (rowOf parts symbols n at next t) (got (show n t) next kids)
+        go : (x : Bool) → formed n at next ≡ x → judge show T n at (got t next kids) ≡ unless (rowOf N n at next t) (got (show n t) next kids)
         go true d = simp (d, f, same t)
         go false d = simp d
 
-module _ (b : List ℕ) (parts symbols n at : ℕ) (r : RawRead) (e : r ≡ rawAnswer (inRange (treeAt b at))) where
-  pub judged-bad : (k : ℕ) → r ≡ Bad k → r ≡ rawAnswer (judge (λ n t. t) (countRules parts symbols) n at (treeAt b at))
+module _ (b : List ℕ) (N : Limits) (n at : ℕ) (r : RawRead) (e : r ≡ rawAnswer (inRange (treeAt b at))) where
+  pub judged-bad : (k : ℕ) → r ≡ Bad k → r ≡ rawAnswer (judge (λ n t. t) (limitRules (limitsOf N)) n at (treeAt b at))
   unfolding rawAnswer
-  judged-bad k q = q ∙ rw (bad-judged (λ n t. t) (countRules parts symbols) n at (treeAt b at) k (reply-bad (inRange (treeAt b at)) r e k q))
+  judged-bad k q = q ∙ rw (bad-judged (λ n t. t) (limitRules (limitsOf N)) n at (treeAt b at) k (reply-bad (inRange (treeAt b at)) r e k q))
 
-  module _ (y : RawAt) (q : r ≡ Got y) (row : ℕ) (j : row ≡ rowOf parts symbols n at (y .next) (rawOf (y .tree))) where
-    by-row : judge (λ n t. t) (countRules parts symbols) n at (treeAt b at) ≡ unless row (got (rawOf (y .tree)) (y .next) (y .children .0))
+  module _ (y : RawAt) (q : r ≡ Got y) (row : ℕ) (j : row ≡ rowOf (limitsOf N) n at (y .next) (rawOf (y .tree))) where
+    by-row : judge (λ n t. t) (limitRules (limitsOf N)) n at (treeAt b at) ≡ unless row (got (rawOf (y .tree)) (y .next) (y .children .0))
     by-row =
         rw (raw-read b at r e y q, j)
-        (row-judged (λ n t. t) (countRules parts symbols) n at parts symbols (λ t. refl) (rawOf (y .tree)) (y .next) (y .children .0) (raw-fits b at r e y q))
+        (row-judged (λ n t. t) (limitRules (limitsOf N)) n at (limitsOf N) (λ t. refl) (rawOf (y .tree)) (y .next) (y .children .0) (raw-fits b at r e y q))
 
-    pub judged-row : (row ≡ 0 → ⊥) → Bad row ≡ rawAnswer (judge (λ n t. t) (countRules parts symbols) n at (treeAt b at))
+    pub judged-row : (row ≡ 0 → ⊥) → Bad row ≡ rawAnswer (judge (λ n t. t) (limitRules (limitsOf N)) n at (treeAt b at))
     unfolding rawAnswer
     judged-row l = rw by-row (simp (ne-eqb _ _ l))
 
-    pub judged-got : row ≡ 0 → Got y ≡ rawAnswer (judge (λ n t. t) (countRules parts symbols) n at (treeAt b at))
+    pub judged-got : row ≡ 0 → Got y ≡ rawAnswer (judge (λ n t. t) (limitRules (limitsOf N)) n at (treeAt b at))
     judged-got l = sym q ∙ e ∙ rw (reply-got (inRange (treeAt b at)) r e y q) (rw (by-row, l) refl)
 
 pub ruleset judge-cases = (any-form, form-low, form-other, form-root, judged-bad, judged-row, judged-got)

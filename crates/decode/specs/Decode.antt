@@ -4,7 +4,7 @@ use mathlib.Core.List.{List}
 use Rattle.format.specs.Test.{if_then_else_}
 use Rattle.format.specs.Reader.{Reply, got, bad}
 use Rattle.format.specs.Tree.{Raw, treeAt}
-use Rattle.format.specs.Tables.{rules, ownTables}
+use Rattle.format.specs.Tables.{rules, Mode, modeTables, ownMode, ownTables}
 use Rattle.format.specs.Buffer.{judge}
 use Rattle.tree.specs.Types.{resolved}
 use Rattle.tree.specs.declared.types.TokenTree.{TokenTree}
@@ -15,14 +15,18 @@ unfoldable pub treeAnswer : Reply TokenTree → TreeRead
 treeAnswer (got t next kids) = Got (record { tree = t; next = next; children = record { 0 = kids } })
 treeAnswer (bad r) = Refused r
 
--- what every reader of the source's trees reads: document 01's table mode, the tree shown by its entries
-unfoldable pub decodedAt : List ℕ → List ℕ → List ℕ → ℕ → ℕ → Reply TokenTree
-decodedAt b parts symbols n at = judge (λ m t. resolved parts symbols t) (rules (ownTables parts symbols)) n at (treeAt b at)
+-- what every reader of the source's trees reads over the tables of a mode: the tree shown by its entries
+unfoldable pub readIn : List ℕ → Mode → ℕ → ℕ → Reply TokenTree
+readIn b M n at = judge (resolved M) (rules (modeTables M)) n at (treeAt b at)
+
+-- the same of a tree that was read already
+unfoldable pub shownAs : Mode → ℕ → ℕ → ℕ → ℕ → Raw → Reply TokenTree
+shownAs M n at next kids t = judge (resolved M) (rules (modeTables M)) n at (got t next kids)
+
+-- document 01's table mode
+abbrev pub decodedAt : List ℕ → List ℕ → List ℕ → ℕ → ℕ → Reply TokenTree
+decodedAt b parts symbols n at = readIn b (ownMode parts symbols) n at
 
 -- the same of one tree that is asked for by itself: "part words of 3", and the sizes of the tables, first
 unfoldable pub decoded : List ℕ → List ℕ → List ℕ → ℕ → ℕ → Reply TokenTree
 decoded b parts symbols n at = if ownTables parts symbols .sized then decodedAt b parts symbols n at else bad 1
-
--- the same of a tree that was read already
-unfoldable pub shownAs : List ℕ → List ℕ → ℕ → ℕ → ℕ → ℕ → Raw → Reply TokenTree
-shownAs parts symbols n at next kids t = judge (λ m t. resolved parts symbols t) (rules (ownTables parts symbols)) n at (got t next kids)

@@ -1,71 +1,52 @@
-// One tree of a buffer, judged by its number and the sizes of the tables: 7, 2 and 8 in turn.
+// One tree of a buffer, judged by its number and how far its indices may reach: 7, 2 and 8 in turn.
 use crate::read::raw_at;
+use tree::limits::Limits;
 use tree::raw::RawRead;
 use tree::raw::RawTree;
 use tree::raw::place;
 ghost use mathlib.Core.Path.{_≡_};
 ghost use mathlib.Core.Bool.{false, _&&_};
-ghost use Prim.Native.Nat.{_+_, _<_};
+ghost use Prim.Native.Nat.{_+_};
 ghost use lib.Dec.{ltb, eqb};
 ghost use Rattle.format.specs.Tree.{treeAt};
-ghost use Rattle.format.specs.Tables.{countRules};
 ghost use Rattle.format.specs.Buffer.{formed, judge};
 ghost use Rattle.tree.specs.Raw.{rawOf, rawAnswer};
-ghost use Rattle.decode.specs.Judge.{rowFrom, rowOf};
+ghost use Rattle.tree.specs.Mode.{limitsOf};
+ghost use Rattle.decode.specs.Judge.{rowFrom, rowOf, limitRules};
 
 // The bytes of the root's form, which no other form has.
 const ROOT_BYTES: usize = 33;
 
-// Whether a part stands before the last two, which are the root's.
-fn part_in(parts: usize, part: u32) -> bool
-    ensures { λ r. ⌜ r ≡ ltb (part + 2) parts ⌝ }
+fn is_below(index: u32, limit: usize) -> bool
+    ensures { λ r. ⌜ r ≡ ltb index limit ⌝ }
 {
-    let index = place(part);
-    if parts <= index + 2 {
+    let at = place(index);
+    if limit <= at {
         return false;
     }
     true
 }
 
-fn symbol_in(symbols: usize, symbol: u32) -> bool
-    ensures { λ r. ⌜ r ≡ ltb symbol symbols ⌝ }
+// The part and the symbol of an ident or a literal, or the two parts of a subtree.
+fn both_below(first: u32, limit: usize, second: u32, other: usize) -> bool
+    ensures { λ r. ⌜ r ≡ (ltb first limit && ltb second other) ⌝ }
 {
-    let index = place(symbol);
-    if symbols <= index {
+    if !is_below(first, limit) {
         return false;
     }
-    true
+    is_below(second, other)
 }
 
-// The part and the symbol of an ident or a literal.
-fn both_in(parts: usize, symbols: usize, part: u32, symbol: u32) -> bool
-    ensures { λ r. ⌜ r ≡ (ltb (part + 2) parts && ltb symbol symbols) ⌝ }
-{
-    if !part_in(parts, part) {
-        return false;
-    }
-    symbol_in(symbols, symbol)
-}
-
-fn parts_in(parts: usize, opening: u32, closing: u32) -> bool
-    ensures { λ r. ⌜ r ≡ (ltb (opening + 2) parts && ltb (closing + 2) parts) ⌝ }
-{
-    if !part_in(parts, opening) {
-        return false;
-    }
-    part_in(parts, closing)
-}
-
-// The last two parts, in this order.
-fn root_parts(parts: usize, opening: u32, closing: u32) -> bool
-    ensures { λ r. ⌜ r ≡ (eqb (opening + 2) parts && eqb (closing + 1) parts) ⌝ }
+// The root's two parts, in this order.
+fn root_parts(root: usize, opening: u32, closing: u32) -> bool
+    ensures { λ r. ⌜ r ≡ (eqb opening root && eqb closing (root + 1)) ⌝ }
 {
     let first = place(opening);
     let second = place(closing);
-    if first + 2 != parts {
+    if first != root {
         return false;
     }
-    if second + 1 != parts {
+    if second != first + 1 {
         return false;
     }
     true
@@ -108,66 +89,52 @@ fn row_from(n: u32, at: usize, next: usize, root: bool, below: bool) -> u32
 
 // ---- the rows of tree n by its sort. They take numbers: a span handed on whole would be copied where it is not needed
 
-pub(crate) fn punct_row(parts: usize, n: u32, at: usize, next: usize, part: u32) -> u32
-    ensures { λ r. ⌜ r ≡ rowFrom n at next false (ltb (part + 2) parts) ⌝ }
+pub(crate) fn punct_row(limits: Limits, n: u32, at: usize, next: usize, part: u32) -> u32
+    ensures { λ r. ⌜ r ≡ rowFrom n at next false (ltb part (limits .limit)) ⌝ }
 {
-    row_from(n, at, next, false, part_in(parts, part))
+    row_from(n, at, next, false, is_below(part, limits.limit))
 }
 
 // An ident or a literal.
-pub(crate) fn symbol_row(
-    parts: usize,
-    symbols: usize,
-    n: u32,
-    at: usize,
-    next: usize,
-    part: u32,
-    symbol: u32,
-) -> u32
-    ensures { λ r. ⌜ r ≡ rowFrom n at next false (ltb (part + 2) parts && ltb symbol symbols) ⌝ }
+pub(crate) fn symbol_row(limits: Limits, n: u32, at: usize, next: usize, part: u32, symbol: u32) -> u32
+    ensures { λ r. ⌜ r ≡ rowFrom n at next false (ltb part (limits .limit) && ltb symbol (limits .symbols)) ⌝ }
 {
-    row_from(n, at, next, false, both_in(parts, symbols, part, symbol))
+    let below = both_below(part, limits.limit, symbol, limits.symbols);
+    row_from(n, at, next, false, below)
 }
 
-pub(crate) fn subtree_row(
-    parts: usize,
-    n: u32,
-    at: usize,
-    next: usize,
-    opening: u32,
-    closing: u32,
-) -> u32
+pub(crate) fn subtree_row(limits: Limits, n: u32, at: usize, next: usize, opening: u32, closing: u32) -> u32
     ensures { λ r. ⌜ r ≡ rowFrom n at next
-        (eqb (opening + 2) parts && eqb (closing + 1) parts)
-        (ltb (opening + 2) parts && ltb (closing + 2) parts) ⌝ }
+        (eqb opening (limits .root) && eqb closing (limits .root + 1))
+        (ltb opening (limits .limit) && ltb closing (limits .limit)) ⌝ }
 {
-    let root = root_parts(parts, opening, closing);
-    let below = parts_in(parts, opening, closing);
+    let root = root_parts(limits.root, opening, closing);
+    let below = both_below(opening, limits.limit, closing, limits.limit);
     row_from(n, at, next, root, below)
 }
 
 // 2 or 8 for tree n, read from `at` to `next` with its fields in range, or 0.
-fn tree_row(parts: usize, symbols: usize, n: u32, at: usize, next: usize, tree: RawTree) -> u32
-    ensures { λ r. ⌜ r ≡ rowOf parts symbols n at next (rawOf tree) ⌝ }
+fn tree_row(limits: Limits, n: u32, at: usize, next: usize, tree: RawTree) -> u32
+    ensures { λ r. ⌜ r ≡ rowOf (limitsOf limits) n at next (rawOf tree) ⌝ }
 {
     match tree {
-        RawTree::Punct(p) => punct_row(parts, n, at, next, p.span.index),
-        RawTree::Ident(p) => symbol_row(parts, symbols, n, at, next, p.span.index, p.symbol),
-        RawTree::Literal(p) => symbol_row(parts, symbols, n, at, next, p.span.index, p.symbol),
-        RawTree::Subtree(p) => subtree_row(parts, n, at, next, p.opening.index, p.closing.index),
+        RawTree::Punct(p) => punct_row(limits, n, at, next, p.span.index),
+        RawTree::Ident(p) => symbol_row(limits, n, at, next, p.span.index, p.symbol),
+        RawTree::Literal(p) => symbol_row(limits, n, at, next, p.span.index, p.symbol),
+        RawTree::Subtree(p) => subtree_row(limits, n, at, next, p.opening.index, p.closing.index),
     }
 }
 
 // Tree n at a place, or the number of the first of the rows 7, 2 and 8 that refuses it.
-pub fn tree_at(b: &[u8], parts: usize, symbols: usize, n: u32, at: usize) -> RawRead
-    ensures { λ r. ⌜ r ≡ rawAnswer (judge (λ n t. t) (countRules parts symbols) n at (treeAt (now (b .entry)) at)) ⌝ }
+pub fn tree_at(b: &[u8], limits: Limits, n: u32, at: usize) -> RawRead
+    ensures { λ r. ⌜ r ≡ rawAnswer (judge (λ n t. t) (limitRules (limitsOf limits)) n at (treeAt (now (b .entry)) at)) ⌝ }
 {
     let read = raw_at(b, at);
     let RawRead::Got(here) = read else {
         return read;
     };
     let tree = here.tree;
-    let row = tree_row(parts, symbols, n, at, here.next, tree);
+    let row = tree_row(limits, n, at, here.next, tree);
     if row != 0 {
         return RawRead::Bad(row);
     }

@@ -2,6 +2,9 @@ pub mod Answers
 pub mod RawAgain
 pub mod FieldsReturns
 pub mod KindsReturns
+pub mod RangedReturns
+pub mod LimitsReturns
+pub mod OwnMode
 pub mod KindsUse
 pub mod TypesWords
 pub mod WordsFit

@@ -2,7 +2,6 @@
 use Prim.Native.Nat.{ℕ, zero, suc, _+_, _*_, _%_, _≤_}
 use mathlib.Core.Bool.{Bool, true, false, _&&_}
 use mathlib.Core.Path.{_≡_, refl}
-use mathlib.Core.List.{List}
 use native.Mathlib.Omega.{arith}
 use borrow.Author.Tests.{leb-true, eqb-true}
 use lib.Dec.{leb, eqb}
@@ -10,7 +9,7 @@ use Rattle.format.specs.Test.{if_then_else_}
 use Rattle.format.specs.Span as format
 use Rattle.format.specs.Tree.{Raw, punct, ident, literal, subtree}
 use Rattle.format.specs.Fields.{spanFits, isScalar, isRawKind, fields}
-use Rattle.format.specs.Tables.{treeWords}
+use Rattle.format.specs.Tables.{Mode, treeWords}
 use Rattle.format.proofs.Each.{and-left, and-right}
 use Rattle.tree.specs.Types.{spacingOf, isRawOf, delimiterOf, litKindOf, resolved, spacingWord, isRawWord, delimiterWord, litKindWord, treeWordsOf}
 
@@ -61,21 +60,21 @@ count-255 r false e = let h = eqb-true r 0 e in omega arith
 pub one-word : (k r x : ℕ) → k ≤ 10 → r ≤ 255 → x ≤ 255 → (k + 256 * r + 65536 * x) % 4294967296 ≡ k + 256 * r + 65536 * x
 one-word k r x f g h = omega arith
 
-pub resolved-words : (parts symbols : List ℕ) (t : Raw) → fields t ≡ true → treeWordsOf (resolved parts symbols t) ≡ treeWords parts symbols t
+pub resolved-words : (M : Mode) (n : ℕ) (t : Raw) → fields t ≡ true → treeWordsOf (resolved M n t) ≡ treeWords M n t
 unfolding treeWordsOf resolved treeWords
-resolved-words parts symbols (punct s c x) e =
+resolved-words M n (punct s c x) e =
     let h : x ≤ 2 = leb-true x 2 (and-right (spanFits s && isScalar c) (leb x 2) e) in
     rw (spacing-again x h)
-resolved-words parts symbols (ident s i r) e =
+resolved-words M n (ident s i r) e =
     let h : r ≤ 1 = leb-true r 1 (and-right (spanFits s) (leb r 1) e) in
     rw (is-raw-again r h)
-resolved-words parts symbols (literal s i k r x) e =
+resolved-words M n (literal s i k r x) e =
     let c : Bool = if isRawKind k then leb r 255 else eqb r 0 in
     let f = and-left (spanFits s && leb k 10 && c) (leb x 255) e in
     let g : c ≡ true = and-right (spanFits s && leb k 10) c f in
     let h : k ≤ 10 = leb-true k 10 (and-right (spanFits s) (leb k 10) (and-left (spanFits s && leb k 10) c f)) in
     let l : x ≤ 255 = leb-true x 255 (and-right (spanFits s && leb k 10 && c) (leb x 255) e) in
     rw (kind-again k r h g, one-word k r x h (count-255 r (isRawKind k) g) l)
-resolved-words parts symbols (subtree s t n d) e =
+resolved-words M n (subtree s t c d) e =
     let h : d ≤ 3 = leb-true d 3 (and-right (spanFits s && spanFits t) (leb d 3) e) in
     rw (delimiter-again d h)

@@ -1,5 +1,6 @@
 pub mod Raw
 pub mod Types
+pub mod Mode
 pub mod Words
 pub mod Refusal
 pub mod Listed

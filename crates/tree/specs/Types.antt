@@ -8,7 +8,9 @@ use Rattle.format.specs.Test.{if_then_else_}
 use Rattle.format.specs.Fields.{isRawKind}
 use Rattle.format.specs.Span as format
 use Rattle.format.specs.Root.{WordSpan}
+use Rattle.format.specs.Part.{Part}
 use Rattle.format.specs.Tree.{Raw, punct, ident, literal, subtree}
+use Rattle.format.specs.Tables.{Mode, entryAt}
 use Rattle.tree.specs.declared.types.Span.{Span}
 use Rattle.tree.specs.declared.types.Spacing.{Spacing}
 use Rattle.tree.specs.declared.types.Spacing.the-variants.{Alone, Joint, JointHidden}
@@ -77,34 +79,29 @@ litKindAnswer k r = if leb k 10 && (if isRawKind k then leb r 255 else eqb r 0) 
 
 -- ---- by the entries of the tables
 
-abbrev pub spanWith : List ℕ → format.Span → Span
-spanWith parts s =
-    record {
-      file = getD parts (3 * s .index) 0;
-      «ast_id» = getD parts (3 * s .index + 1) 0;
-      context = getD parts (3 * s .index + 2) 0;
-      start = s .start;
-      len = s .len;
-    }
+-- a packed span of this part
+abbrev pub spanWith : Part → format.Span → Span
+spanWith p s = record { file = p .file; «ast_id» = p .ast; context = p .context; start = s .start; len = s .len }
 
-abbrev pub punctWith : List ℕ → format.Span → ℕ → ℕ → Leaf
-punctWith parts s c x = leaves.Punct (record { char = c; spacing = spacingOf x; span = spanWith parts s })
+abbrev pub punctWith : Part → format.Span → ℕ → ℕ → Leaf
+punctWith p s c x = leaves.Punct (record { char = c; spacing = spacingOf x; span = spanWith p s })
 
-abbrev pub identWith : List ℕ → List ℕ → format.Span → ℕ → ℕ → Leaf
-identWith parts symbols s i r = leaves.Ident (record { sym = getD symbols i 0; span = spanWith parts s; «is_raw» = isRawOf r })
+abbrev pub identWith : Part → List ℕ → format.Span → ℕ → ℕ → Leaf
+identWith p symbols s i r = leaves.Ident (record { sym = getD symbols i 0; span = spanWith p s; «is_raw» = isRawOf r })
 
-abbrev pub literalWith : List ℕ → List ℕ → format.Span → ℕ → ℕ → ℕ → ℕ → Leaf
-literalWith parts symbols s i k r x =
-    leaves.Literal (record { «text_and_suffix» = getD symbols i 0; span = spanWith parts s; kind = litKindOf k r; «suffix_len» = x })
+abbrev pub literalWith : Part → List ℕ → format.Span → ℕ → ℕ → ℕ → ℕ → Leaf
+literalWith p symbols s i k r x =
+    leaves.Literal (record { «text_and_suffix» = getD symbols i 0; span = spanWith p s; kind = litKindOf k r; «suffix_len» = x })
 
-abbrev pub subtreeWith : List ℕ → format.Span → format.Span → ℕ → ℕ → Subtree
-subtreeWith parts s t n d = record { opening = spanWith parts s; closing = spanWith parts t; len = record { 0 = n }; kind = delimiterOf d }
+abbrev pub subtreeWith : Part → Part → format.Span → format.Span → ℕ → ℕ → Subtree
+subtreeWith p q s t n d = record { opening = spanWith p s; closing = spanWith q t; len = record { 0 = n }; kind = delimiterOf d }
 
-unfoldable pub resolved : List ℕ → List ℕ → Raw → TokenTree
-resolved parts symbols (punct s c x) = trees.Leaf (punctWith parts s c x)
-resolved parts symbols (ident s i r) = trees.Leaf (identWith parts symbols s i r)
-resolved parts symbols (literal s i k r x) = trees.Leaf (literalWith parts symbols s i k r x)
-resolved parts symbols (subtree s t n d) = trees.Subtree (subtreeWith parts s t n d)
+-- tree n with its indices looked up
+unfoldable pub resolved : Mode → ℕ → Raw → TokenTree
+resolved M n (punct s c x) = trees.Leaf (punctWith (entryAt M n (s .index)) s c x)
+resolved M n (ident s i r) = trees.Leaf (identWith (entryAt M n (s .index)) (M .symbols) s i r)
+resolved M n (literal s i k r x) = trees.Leaf (literalWith (entryAt M n (s .index)) (M .symbols) s i k r x)
+resolved M n (subtree s t c d) = trees.Subtree (subtreeWith (entryAt M n (s .index)) (entryAt M n (t .index)) s t c d)
 
 -- ---- list words
 

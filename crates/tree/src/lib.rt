@@ -1,8 +1,10 @@
 // One tree as a value: its types, row 2 of its fields, and its list words.
 pub mod fields;
 pub mod kinds;
+pub mod limits;
 pub mod listed;
 pub mod plain;
+pub mod ranged;
 pub mod raw;
 pub mod refusal;
 pub mod sizes;
