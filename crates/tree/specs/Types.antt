@@ -7,8 +7,8 @@ use lib.Dec.{leb, eqb}
 use Rattle.format.specs.Test.{if_then_else_}
 use Rattle.format.specs.Fields.{isRawKind}
 use Rattle.format.specs.Span as format
-use Rattle.format.specs.Root.{WordSpan}
-use Rattle.format.specs.Part.{Part}
+use Rattle.format.specs.Part as words
+use Rattle.format.specs.Part.{Part, WordSpan, noSpan}
 use Rattle.format.specs.Tree.{Raw, punct, ident, literal, subtree}
 use Rattle.format.specs.Tables.{Mode, entryAt}
 use Rattle.tree.specs.declared.types.Span.{Span}
@@ -77,11 +77,26 @@ delimiterAnswer d = if leb d 3 then delimiters.Got (delimiterOf d) else delimite
 unfoldable pub litKindAnswer : ℕ → ℕ → LitKindRead
 litKindAnswer k r = if leb k 10 && (if isRawKind k then leb r 255 else eqb r 0) then kinds.Got (litKindOf k r) else kinds.Bad 2
 
+-- ---- the definitions' span of the source's, and back
+
+abbrev pub wordsOf : Span → WordSpan
+wordsOf s = record { part = record { file = s .file; ast = s .«ast_id»; context = s .context }; start = s .start; len = s .len }
+
+abbrev pub treeSpan : WordSpan → Span
+treeSpan s =
+    record {
+      file = s .part .file;
+      «ast_id» = s .part .ast;
+      context = s .part .context;
+      start = s .start;
+      len = s .len;
+    }
+
 -- ---- by the entries of the tables
 
 -- a packed span of this part
 abbrev pub spanWith : Part → format.Span → Span
-spanWith p s = record { file = p .file; «ast_id» = p .ast; context = p .context; start = s .start; len = s .len }
+spanWith p s = treeSpan (record { part = p; start = s .start; len = s .len })
 
 abbrev pub punctWith : Part → format.Span → ℕ → ℕ → Leaf
 punctWith p s c x = leaves.Punct (record { char = c; spacing = spacingOf x; span = spanWith p s })
@@ -135,14 +150,11 @@ litKindWord (CStrRaw r) = 9 + 256 * r
 litKindWord Err = 10
 
 abbrev pub spanList : Span → List ℕ
-spanList s = s .file ∷ s .«ast_id» ∷ s .context ∷ s .start ∷ s .len ∷ []
+spanList s = words.spanList (wordsOf s)
 
--- the definitions' span of a lent one
-abbrev pub wordsOf : Span → WordSpan
-wordsOf s = record { file = s .file; ast = s .«ast_id»; context = s .context; start = s .start; len = s .len }
-
+-- "zero in a leaf"
 abbrev pub zeros : List ℕ
-zeros = 0 ∷ 0 ∷ 0 ∷ 0 ∷ 0 ∷ []
+zeros = words.spanList noSpan
 
 -- a word is a u32: a raw count or a suffix length that row 2 refuses may pass it, and what is past it falls away
 unfoldable pub treeWordsOf : TokenTree → List ℕ
