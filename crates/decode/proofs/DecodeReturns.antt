@@ -345,6 +345,9 @@ pub ruleset sort-cases = (punct-fits, ident-fits, literal-fits, subtree-fits, so
 
 -- ---- tree n at a place
 
+pub decode-fits : (b : List ℕ) (at : ℕ) (r : RawRead) → r ≡ rawAnswer (inRange (treeAt b at)) → (y : RawAt) → r ≡ raws.Got y → fields (rawOf (y .tree)) ≡ true
+decode-fits b at r e y q = raw-fits b at r e y q
+
 module _ (b : List ℕ) (M : Mode) (n at : ℕ) (r : RawRead) (e : r ≡ rawAnswer (inRange (treeAt b at))) where
   pub decode-bad : (k : ℕ) → r ≡ raws.Bad k → Refused k ≡ treeAnswer (readIn b M n at)
   unfolding treeAnswer readIn
@@ -352,9 +355,6 @@ module _ (b : List ℕ) (M : Mode) (n at : ℕ) (r : RawRead) (e : r ≡ rawAnsw
       sym (ap treeAnswer (bad-judged (resolved M) (rules (modeTables M)) n at (treeAt b at) k (reply-bad (inRange (treeAt b at)) r e k q)))
 
   module _ (y : RawAt) (q : r ≡ raws.Got y) where
-    pub decode-fits : fields (rawOf (y .tree)) ≡ true
-    decode-fits = raw-fits b at r e y q
-
     pub decode-found : (x : TreeRead) → x ≡ treeAnswer (shownAs M n at (y .next) (y .children .0) (rawOf (y .tree))) → x ≡ treeAnswer (readIn b M n at)
     unfolding readIn shownAs
     decode-found x f = rw (raw-read b at r e y q) f

@@ -1,19 +1,21 @@
 -- What a caller learns from a decoded tree: compared by list words, it is what the definitions' reader reads.
-use Prim.Native.Nat.{ℕ, _/_}
+use Prim.Native.Nat.{ℕ}
 use mathlib.Core.Bool.{Bool, true, false}
 use mathlib.Core.Path.{_≡_, refl, sym, ap, _∙_}
 use mathlib.Core.List.{List}
 use native.Mathlib.Omega.{arith}
 use lib.Dec.{eqb}
-use lib.ListN.{length}
 use Rattle.format.specs.Reader.{Reply, got, bad}
 use Rattle.format.specs.Tree.{Raw, treeAt}
 use Rattle.format.specs.Fields.{fields}
-use Rattle.format.specs.Tables.{TableRules, treeWords, rowEight, rules, countRules, ownTables}
-use Rattle.format.specs.Buffer.{formed, judge, ownReader}
+use Rattle.format.specs.Tables.{TableRules, rules, rowEight, Mode, limits, treeWords, modeTables}
+use Rattle.format.specs.Buffer.{formed, judge, reader}
 use Rattle.tree.specs.Raw.{rawOf, rawAnswer}
 use Rattle.tree.specs.Types.{resolved, treeWordsOf}
-use Rattle.decode.specs.Decode.{treeAnswer, decodedAt}
+use Rattle.decode.specs.Judge.{limitRules}
+use Rattle.decode.specs.Decode.{treeAnswer, readIn}
+use Rattle.tree.specs.Mode.{limitsOf, modeOf, Whole}
+use Rattle.tree.specs.declared.limits.Limits.{Limits}
 use Rattle.tree.specs.declared.raw.RawAt.{RawAt}
 use Rattle.tree.specs.declared.raw.RawRead.{RawRead}
 use Rattle.tree.specs.declared.raw.RawRead.the-variants as raws
@@ -59,22 +61,22 @@ abbrev pub worded : Reply TokenTree → Reply (List ℕ)
 worded (got t n k) = got (treeWordsOf t) n k
 worded (bad r) = bad r
 
-module _ (parts symbols : List ℕ) (n at : ℕ) where
-  words-judged : (z : Reply Raw) → worded (judge (λ m t. resolved parts symbols t) (rules (ownTables parts symbols)) n at z)
-      ≡ judge (λ m t. treeWords parts symbols t) (rules (ownTables parts symbols)) n at z
+module _ (M : Mode) (n at : ℕ) where
+  words-judged : (z : Reply Raw) → worded (judge (resolved M) (rules (modeTables M)) n at z)
+      ≡ judge (treeWords M) (rules (modeTables M)) n at z
   unfolding judge
   words-judged (bad r) = refl
-  words-judged (got t m k) = go (formed n at m) (fields t) (eqb (rowEight (length parts / 3) (length symbols) n t) 0) refl refl refl
+  words-judged (got t m k) = go (formed n at m) (fields t) (eqb (rowEight (limits M) n t) 0) refl refl refl
     where
-      go : (x y w : Bool) → formed n at m ≡ x → fields t ≡ y → eqb (rowEight (length parts / 3) (length symbols) n t) 0 ≡ w
-          → worded (judge (λ m t. resolved parts symbols t) (rules (ownTables parts symbols)) n at (got t m k)) ≡ judge (λ m t. treeWords parts symbols t) (rules (ownTables parts symbols)) n at (got t m k)
+      go : (x y w : Bool) → formed n at m ≡ x → fields t ≡ y → eqb (rowEight (limits M) n t) 0 ≡ w
+          → worded (judge (resolved M) (rules (modeTables M)) n at (got t m k)) ≡ judge (treeWords M) (rules (modeTables M)) n at (got t m k)
       go false y w a b c = simp a
       go true false w a b c = simp (a, b)
       go true true false a b c = simp (a, b, c)
-      go true true true a b c = simp (a, b, c, resolved-words parts symbols t b)
+      go true true true a b c = simp (a, b, c, resolved-words M n t b)
 
-  pub decoded-words : (b : List ℕ) (k : ℕ) → worded (decodedAt b parts symbols n at) ≡ ownReader b k parts symbols .read n at
-  unfolding decodedAt ownReader
+  pub decoded-words : (b : List ℕ) (k : ℕ) → worded (readIn b M n at) ≡ reader b k (modeTables M) .read n at
+  unfolding readIn
   decoded-words b k = words-judged (treeAt b at)
 
 -- ---- a tree that was judged by the sizes of the tables, without its entries
@@ -96,21 +98,29 @@ module _ {A : Type 0} (f : ℕ → Raw → A) (T T′ : TableRules) (n p : ℕ) 
       go true true false a b c = let d : bad (T .judged n t) ≡ bad r = simp (a, b, c) at e in simp (a, b, ← same t, c) (ap (shown (f n)) d)
       go true true true a b c = let d : got t m k ≡ bad r = simp (a, b, c) at e in simp (a, b, ← same t, c) (ap (shown (f n)) d)
 
-module _ (b parts symbols : List ℕ) (n at : ℕ) (r : RawRead) (e : r ≡ rawAnswer (judge (λ n t. t) (countRules (length parts / 3) (length symbols)) n at (treeAt b at))) where
-  pub sized-refused : (k : ℕ) → r ≡ raws.Bad k → decodedAt b parts symbols n at ≡ bad k
-  unfolding decodedAt
-  sized-refused k q =
-      let T : TableRules = countRules (length parts / 3) (length symbols) in
-      let d = reply-bad (judge (λ n t. t) T n at (treeAt b at)) r e k q in
-      bad-shown (λ m t. resolved parts symbols t) T (rules (ownTables parts symbols)) n at (λ t. refl) (treeAt b at) k d
+module _ (b : List ℕ) (N : Limits) (parts pair symbols : List ℕ) (w : Whole N parts pair symbols) (n at : ℕ) (r : RawRead)
+    (e : r ≡ rawAnswer (judge (λ n t. t) (limitRules (limitsOf N)) n at (treeAt b at))) where
+  abbrev T : TableRules
+  T = limitRules (limitsOf N)
 
-  pub sized-got : (y : RawAt) → r ≡ raws.Got y → decodedAt b parts symbols n at ≡ got (resolved parts symbols (rawOf (y .tree))) (y .next) (y .children .0)
-  unfolding decodedAt judge
+  abbrev own : Mode
+  own = modeOf N parts pair symbols
+
+  same : (t : Raw) → rowEight (limitsOf N) n t ≡ rowEight (limits own) n t
+  same t = ap (λ (k : ℕ). rowEight (record { limit = N .limit; root = N .root; symbols = k }) n t) (w .many)
+
+  pub sized-refused : (k : ℕ) → r ≡ raws.Bad k → readIn b own n at ≡ bad k
+  unfolding readIn
+  sized-refused k q =
+      let d = reply-bad (judge (λ n t. t) T n at (treeAt b at)) r e k q in
+      bad-shown (resolved own) T (rules (modeTables own)) n at same (treeAt b at) k d
+
+  pub sized-got : (y : RawAt) → r ≡ raws.Got y → readIn b own n at ≡ got (resolved own n (rawOf (y .tree))) (y .next) (y .children .0)
+  unfolding readIn judge
   sized-got y q =
-      let T : TableRules = countRules (length parts / 3) (length symbols) in
       let z = judged-read b T n at r e y q in
       let passed = judged-passed b T n at r e y q in
       let a : formed n at (y .next) ≡ true = passed .form in
       let c : fields (rawOf (y .tree)) ≡ true = passed .fits in
-      let d : rowEight (length parts / 3) (length symbols) n (rawOf (y .tree)) ≡ 0 = passed .row in
+      let d : rowEight (limits own) n (rawOf (y .tree)) ≡ 0 = sym (same (rawOf (y .tree))) ∙ passed .row in
       rw z (simp (a, c, d))

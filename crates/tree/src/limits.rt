@@ -24,7 +24,7 @@ fn below_root(parts: usize) -> usize
 
 // Of tables with so many parts and symbols.
 pub fn own_limits(parts: usize, symbols: usize) -> Limits
-    ensures { λ r. ⌜ limitsOf r ≡ ownLimits parts symbols ⌝ }
+    ensures { λ r. ⌜ (limitsOf r ≡ ownLimits parts symbols) × (r .limit ≡ parts - 2) ⌝ }
 {
     let below = below_root(parts);
     Limits {

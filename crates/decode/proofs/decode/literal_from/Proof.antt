@@ -2,22 +2,23 @@ use borrow.Author.Needs.{needs}
 use Rattle.decode.proofs.DecodeReturns.{entry-cases}
 use Rattle.decode.proofs.decode.literal_from.Statement.{statement}
 use Rattle.decode.proofs.decode.literal_from.Tie as tie
-use Rattle.decode.proofs.decode.literal_from.Reads as reads
-use Rattle.decode.proofs.decode.literal_from.Lts as lts
-use Rattle.decode.proofs.decode.span_from.Reads as span-from-reads
-use Rattle.decode.proofs.decode.symbol_from.Reads as symbol-from-reads
 
--- src/decode.rt:122:26
+place-requires : tie.Need-place-requires
+place-requires c κs = search (needs, entry-cases)
+
 symbol-from-requires : tie.Need-symbol-from-requires
 symbol-from-requires c κs = search (needs, entry-cases)
 
--- src/decode.rt:123:15
 span-from-requires : tie.Need-span-from-requires
 span-from-requires c κs = search (needs, entry-cases)
 
--- src/decode.rt:112:1
+lit-kind-of-requires : tie.Need-lit-kind-of-requires
+lit-kind-of-requires c κs = search (needs, entry-cases)
+
 returns : tie.Need-returns
 returns c = search (needs, entry-cases)
 
 pub literal-from-spec : {M : Type 1} → statement M
-literal-from-spec = tie.close (tie.spec symbol-from-requires span-from-requires returns)
+literal-from-spec =
+    tie.close
+    (tie.spec place-requires symbol-from-requires span-from-requires lit-kind-of-requires returns)

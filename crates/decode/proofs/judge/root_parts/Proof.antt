@@ -9,9 +9,6 @@ place-requires c κs = search (needs, index-cases)
 place-requires-2 : tie.Need-place-requires-2
 place-requires-2 c κs = search (needs, index-cases)
 
-add-if1 : tie.Need-add-if1
-add-if1 c = search (needs, index-cases)
-
 returns : tie.Need-returns
 returns c = search (needs, index-cases)
 
@@ -26,5 +23,4 @@ returns-3 c = search (needs, index-cases)
 
 pub root-parts-spec : {M : Type 1} → statement M
 root-parts-spec =
-    tie.close
-    (tie.spec place-requires place-requires-2 add-if1 returns add-if2 returns-2 returns-3)
+    tie.close (tie.spec place-requires place-requires-2 returns add-if2 returns-2 returns-3)

@@ -7,7 +7,7 @@ below-root-requires : tie.Need-below-root-requires
 below-root-requires c κs = search (needs, limits-cases)
 
 returns : tie.Need-returns
-returns c = search (needs, limits-cases)
+returns c = (search (needs, limits-cases), search needs)
 
 pub own-limits-spec : {M : Type 1} → statement M
 own-limits-spec = tie.close (tie.spec below-root-requires returns)
