@@ -15,6 +15,7 @@ use tree::listed::punct_at;
 use tree::listed::sort_at;
 use tree::listed::subtree_at;
 use tree::raw::ChildrenBytes;
+use width::TREE_WORDS;
 ghost use mathlib.Core.Path.{_≡_};
 ghost use Prim.Native.Nat.{_+_, _<_, _≤_};
 ghost use lib.ListN.{length};
@@ -57,7 +58,7 @@ fn short_size(l: &[u32], n: usize, sort: u32, open_index: u32, symbol_index: u32
         tailSize sort (wordOf (now (l .entry)) n 1) «symbol_index» ⌝ }
 {
     let span = small_span(open_span(l, n, open_index));
-    let tail = tail_size(sort, l[13 * n + 1], symbol_index);
+    let tail = tail_size(sort, l[TREE_WORDS * n + 1], symbol_index);
     span + tail
 }
 

@@ -35,6 +35,13 @@ same-span s t e =
     let c = eqb-true (s .len) (t .len) (x .2) in
     λ i. record { part = a i; start = b i; len = c i }
 
+pub span-same : (s t : WordSpan) → s ≡ t → sameSpan s t ≡ true
+span-same s t e =
+    let a = part-same (s .part) (t .part) (ap (λ r. r .part) e) in
+    let b = eq-eqb (s .start) (t .start) (ap (λ r. r .start) e) in
+    let c = eq-eqb (s .len) (t .len) (ap (λ r. r .len) e) in
+    simp (a, b, c)
+
 -- their words tell them apart
 pub words-part : (p q : Part) → partWords p ≡ partWords q → p ≡ q
 words-part p q e =

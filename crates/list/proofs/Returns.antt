@@ -14,6 +14,7 @@ use Rattle.format.specs.Verdict.{passed, refused, _andThen_, eachFrom}
 use Rattle.format.specs.Nest.{stillOpen, openEnds, innermost, nest}
 use Rattle.format.specs.Buffer.{wordShape}
 use Rattle.format.specs.Holding.{holdingAll}
+use Rattle.format.specs.Width.{treeSize}
 use Rattle.format.specs.WordList.{wordOf, wordFields, listCount, given, listSized, listRules, listRows}
 use Rattle.format.proofs.Each.{and₃, and-left, and-right}
 use Rattle.format.proofs.Holding.{holding-leaf, holding-same, holding-two, holding-nest}
@@ -79,14 +80,14 @@ module _ (l : List ℕ) (from n : ℕ) (e : nextSub l from ≡ nextSub l n) wher
   next-stops h = sym (e ∙ next-end l n h)
 
   module _ (h : n < listCount l) where
-    sort : isSub l n ≡ eqb (getD l (13 * n) 0) 3
+    sort : isSub l n ≡ eqb (getD l (treeSize * n) 0) 3
     unfolding isSub
-    sort = rw (add-zero (13 * n))
+    sort = rw (add-zero (treeSize * n))
 
-    pub next-found : getD l (13 * n) 0 ≡ 3 → n ≡ nextSub l from
+    pub next-found : getD l (treeSize * n) 0 ≡ 3 → n ≡ nextSub l from
     next-found k = sym (e ∙ next-here l n h (sort ∙ eq-eqb _ _ k))
 
-    pub next-goes : (getD l (13 * n) 0 ≡ 3 → ⊥) → nextSub l from ≡ nextSub l (n + 1)
+    pub next-goes : (getD l (treeSize * n) 0 ≡ 3 → ⊥) → nextSub l from ≡ nextSub l (n + 1)
     next-goes k = e ∙ next-past l n h (sort ∙ ne-eqb _ _ k)
 
 pub ruleset next-cases = (next-stops, next-found, next-goes)
@@ -274,11 +275,11 @@ pub ruleset held-cases = (held-two, held-nest)
 -- ---- row 1
 
 module _ (l : List ℕ) where
-  pub odd-words : (length l % 13 ≡ 0 → ⊥) → false ≡ listSized l
-  odd-words h = let a : eqb (length l % 13) 0 ≡ false = ne-eqb _ _ h in simp a
+  pub odd-words : (length l % treeSize ≡ 0 → ⊥) → false ≡ listSized l
+  odd-words h = let a : eqb (length l % treeSize) 0 ≡ false = ne-eqb _ _ h in simp a
 
-  module _ (h : length l % 13 ≡ 0) where
-    even : eqb (length l % 13) 0 ≡ true
+  module _ (h : length l % treeSize ≡ 0) where
+    even : eqb (length l % treeSize) 0 ≡ true
     even = eq-eqb _ _ h
 
     pub no-trees : listCount l < 1 → false ≡ listSized l
@@ -298,8 +299,8 @@ pub ruleset sized-cases = (odd-words, no-trees, many-trees, trees-fit)
 
 -- what a caller learns of a list that row 1 passes
 module _ (l : List ℕ) (b : Bool) (e : b ≡ listSized l) (k : b ≡ true) where
-  three : (eqb (length l % 13) 0 ≡ true) × (leb 1 (listCount l) ≡ true) × (leb (listCount l) 1048576 ≡ true)
-  three = and₃ (eqb (length l % 13) 0) (leb 1 (listCount l)) (leb (listCount l) 1048576) (sym e ∙ k)
+  three : (eqb (length l % treeSize) 0 ≡ true) × (leb 1 (listCount l) ≡ true) × (leb (listCount l) 1048576 ≡ true)
+  three = and₃ (eqb (length l % treeSize) 0) (leb 1 (listCount l)) (leb (listCount l) 1048576) (sym e ∙ k)
 
   pub sized-some : 1 ≤ listCount l
   sized-some = leb-true 1 (listCount l) (three .1)

@@ -2,6 +2,7 @@
 use crate::sized::list_rules;
 use crate::sized::refused;
 use tree::refusal::Verdict;
+use width::TREE_WORDS;
 ghost use mathlib.Core.Path.{_≡_};
 ghost use Rattle.format.specs.WordList.{listSized, listRows};
 ghost use Rattle.tree.specs.Refusal.{verdictAnswer};
@@ -10,10 +11,10 @@ ghost use Rattle.tree.specs.Refusal.{verdictAnswer};
 pub fn list_sized(l: &[u32]) -> bool
     ensures { λ r. ⌜ r ≡ listSized (now (l .entry)) ⌝ }
 {
-    if l.len() % 13 != 0 {
+    if l.len() % TREE_WORDS != 0 {
         return false;
     }
-    let count = l.len() / 13;
+    let count = l.len() / TREE_WORDS;
     if count < 1 {
         return false;
     }

@@ -3,6 +3,7 @@ use tree::plain::fields_at;
 use tree::raw::place;
 use tree::refusal::Refusal;
 use tree::refusal::Verdict;
+use width::TREE_WORDS;
 ghost use mathlib.Core.Path.{_≡_};
 ghost use Prim.Native.Nat.{_+_, _<_, _≤_};
 ghost use lib.ListN.{length, getD};
@@ -33,7 +34,7 @@ fn row_two(l: &[u32]) -> Verdict
     requires { ⌜ listCount (now l) ≤ 1048576 ⌝ }
     ensures { λ r. ⌜ r ≡ verdictAnswer (fieldsFrom (now (l .entry)) 0) ⌝ }
 {
-    let count = l.len() / 13;
+    let count = l.len() / TREE_WORDS;
     let mut n: usize = 0;
     while n < count {
         if !fields_at(l, n) {
@@ -51,10 +52,10 @@ fn next_subtree(l: &[u32], from: usize) -> usize
     requires { ⌜ from ≤ listCount (now l) ⌝ }
     ensures { λ r. ⌜ r ≡ nextSub (now (l .entry)) from ⌝ }
 {
-    let count = l.len() / 13;
+    let count = l.len() / TREE_WORDS;
     let mut n = from;
     while n < count {
-        if l[13 * n] == 3 {
+        if l[TREE_WORDS * n] == 3 {
             return n;
         }
         n = n + 1;
@@ -94,7 +95,7 @@ fn end_of(l: &[u32], n: usize) -> usize
     requires { ⌜ (n < listCount (now l)) × (listCount (now l) ≤ 1048576) ⌝ }
     ensures { λ r. ⌜ r ≡ n + 1 + wordOf (now (l .entry)) n 1 ⌝ }
 {
-    let count = place(l[13 * n + 1]);
+    let count = place(l[TREE_WORDS * n + 1]);
     n + 1 + count
 }
 
@@ -106,7 +107,7 @@ fn is_rooted(l: &[u32]) -> bool
     if l[0] != 3 {
         return false;
     }
-    if end_of(l, 0) != l.len() / 13 {
+    if end_of(l, 0) != l.len() / TREE_WORDS {
         return false;
     }
     true
@@ -118,7 +119,7 @@ fn nest_pass(l: &[u32], ends: &mut [u32]) -> Verdict
     requires { ⌜ (length (now ends) ≡ 256) × (getD (now ends) 0 0 ≡ listCount (now l)) ⌝ }
     ensures { λ r. ⌜ r ≡ verdictAnswer (nestBelow (now (l .entry))) ⌝ }
 {
-    let count = l.len() / 13;
+    let count = l.len() / TREE_WORDS;
     let mut depth: usize = 1;
     let mut n = next_subtree(l, 1);
     while n < count {
@@ -144,7 +145,7 @@ fn nest_below(l: &[u32]) -> Verdict
     ensures { λ r. ⌜ r ≡ verdictAnswer (nestBelow (now (l .entry))) ⌝ }
 {
     let mut ends = [0u32; 256];
-    ends[0] = (l.len() / 13) as u32;
+    ends[0] = (l.len() / TREE_WORDS) as u32;
     nest_pass(l, &mut ends)
 }
 

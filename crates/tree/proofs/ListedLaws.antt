@@ -8,7 +8,10 @@ use borrow.Author.Tests.{le-leb, lt-leb, leb-true, eq-eqb, ne-eqb, not-true, not
 use lib.Dec.{leb, eqb}
 use Rattle.format.specs.Test.{if_then_else_}
 use Rattle.format.specs.Fields.{fields, isRawKind}
+use Rattle.format.specs.Width.{spanSize, openAt, closeAt}
+use Rattle.format.specs.Part.{WordSpan, spanFrom, noSpan}
 use Rattle.format.specs.WordList.{wordOf, rawFrom, noClose, wordFields}
+use Rattle.format.proofs.PartLaw.{span-same}
 use Rattle.tree.specs.Raw.{punctRaw, identRaw, literalRaw, subtreeRaw}
 use Rattle.pack.specs.declared.span.PackedSpan.{PackedSpan}
 use Rattle.tree.specs.declared.raw.RawPunct.{RawPunct}
@@ -16,7 +19,7 @@ use Rattle.tree.specs.declared.raw.RawIdent.{RawIdent}
 use Rattle.tree.specs.declared.raw.RawLiteral.{RawLiteral}
 use Rattle.tree.specs.declared.raw.RawSubtree.{RawSubtree}
 use Rattle.tree.specs.Listed.{openSpan, closeSpan, punctAt, identAt, literalAt, subtreeAt}
-use Rattle.tree.specs.Plain.{secondMost, firstMost, closeMost, Low, LowClose}
+use Rattle.tree.specs.Plain.{secondMost, firstMost, closeMost, spanSum, Low, LowClose}
 
 -- ---- the sort
 
@@ -89,7 +92,7 @@ module _ (x : ℕ) where
   pub first-other : (x ≡ 0 → ⊥) → 4294967294 ≡ firstMost x
   first-other h = simp (ne-eqb _ _ h)
 
-  pub close-3 : x ≡ 3 → 21474836475 ≡ closeMost x
+  pub close-3 : x ≡ 3 → spanSize * 4294967295 ≡ closeMost x
   close-3 h = rw h
 
   pub close-other : (x ≡ 3 → ⊥) → 0 ≡ closeMost x
@@ -106,23 +109,30 @@ count-zero : (b : Bool) (r : ℕ) → r ≡ 0 → (if b then leb r 255 else eqb 
 count-zero true r h = rw h
 count-zero false r h = rw h
 
-module _ (w : ℕ → ℕ) (h₇ : w 6 + w 7 ≤ 4294967295) where
-  leaf-close : w 8 + w 9 + w 10 + w 11 + w 12 ≤ 0 → noClose w ≡ true
-  leaf-close h =
-      let a : w 8 ≡ 0 = omega arith in
-      let b : w 9 ≡ 0 = omega arith in
-      let c : w 10 ≡ 0 = omega arith in
-      let d : w 11 ≡ 0 = omega arith in
-      let e : w 12 ≡ 0 = omega arith in
-      simp (eq-eqb _ _ a, eq-eqb _ _ b, eq-eqb _ _ c, eq-eqb _ _ d, eq-eqb _ _ e)
+zero-sum : (s : WordSpan) → spanSum s ≤ 0 → s ≡ noSpan
+zero-sum s h =
+    let a : s .part .file ≡ 0 = omega arith in
+    let b : s .part .ast ≡ 0 = omega arith in
+    let c : s .part .context ≡ 0 = omega arith in
+    let d : s .start ≡ 0 = omega arith in
+    let e : s .len ≡ 0 = omega arith in
+    λ i. record { part = record { file = a i; ast = b i; context = c i }; start = d i; len = e i }
 
+leaf-close : (w : ℕ → ℕ) → spanSum (spanFrom w closeAt) ≤ 0 → noClose w ≡ true
+leaf-close w h = span-same (spanFrom w closeAt) noSpan (zero-sum (spanFrom w closeAt) h)
+
+-- the range of a span's start and length
+abbrev Ends : WordSpan → Type 0
+Ends s = s .start + s .len ≤ 4294967295
+
+module _ (w : ℕ → ℕ) (ho : Ends (spanFrom w openAt)) where
   plain-punct : w 0 ≡ 0 → w 2 ≤ 2 → w 1 ≤ 0xD7FF → noClose w ≡ true → wordFields w ≡ true
   unfolding rawFrom
-  plain-punct z h₂ h₁ k = simp (z, le-leb _ _ h₇, le-leb _ _ h₂, le-leb _ _ h₁, k)
+  plain-punct z h₂ h₁ k = simp (z, le-leb _ _ ho, le-leb _ _ h₂, le-leb _ _ h₁, k)
 
   plain-ident : w 0 ≡ 1 → w 2 ≤ 1 → noClose w ≡ true → wordFields w ≡ true
   unfolding rawFrom
-  plain-ident z h₂ k = simp (z, le-leb _ _ h₇, le-leb _ _ h₂, k)
+  plain-ident z h₂ k = simp (z, le-leb _ _ ho, le-leb _ _ h₂, k)
 
   plain-literal : w 0 ≡ 2 → w 2 ≤ 10 → noClose w ≡ true → wordFields w ≡ true
   unfolding rawFrom
@@ -131,18 +141,18 @@ module _ (w : ℕ → ℕ) (h₇ : w 6 + w 7 ≤ 4294967295) where
       let b : w 2 / 256 % 256 ≡ 0 = omega arith in
       let d : w 2 / 65536 ≤ 255 = omega arith in
       let e : (if isRawKind (w 2 % 256) then leb (w 2 / 256 % 256) 255 else eqb (w 2 / 256 % 256) 0) ≡ true = count-zero (isRawKind (w 2 % 256)) (w 2 / 256 % 256) b in
-      simp (z, le-leb _ _ h₇, le-leb _ _ a, e, le-leb _ _ d, k)
+      simp (z, le-leb _ _ ho, le-leb _ _ a, e, le-leb _ _ d, k)
 
-  plain-subtree : w 0 ≡ 3 → w 2 ≤ 3 → w 11 + w 12 ≤ 4294967295 → wordFields w ≡ true
+  plain-subtree : w 0 ≡ 3 → w 2 ≤ 3 → Ends (spanFrom w closeAt) → wordFields w ≡ true
   unfolding rawFrom
-  plain-subtree z h₂ h₁₂ = simp (z, le-leb _ _ h₇, le-leb _ _ h₁₂, le-leb _ _ h₂)
+  plain-subtree z h₂ hc = simp (z, le-leb _ _ ho, le-leb _ _ hc, le-leb _ _ h₂)
 
 -- by the sort, the limits being what it says
-within : (x : ℕ) (w : ℕ → ℕ) → w 0 ≡ x → x ≤ 3 → w 2 ≤ secondMost x → w 1 ≤ firstMost x → w 8 + w 9 + w 10 + w 11 + w 12 ≤ closeMost x → w 6 + w 7 ≤ 4294967295 → w 11 + w 12 ≤ 4294967295
+within : (x : ℕ) (w : ℕ → ℕ) → w 0 ≡ x → x ≤ 3 → w 2 ≤ secondMost x → w 1 ≤ firstMost x → spanSum (spanFrom w closeAt) ≤ closeMost x → Ends (spanFrom w openAt) → Ends (spanFrom w closeAt)
     → wordFields w ≡ true
-within zero w z h h₂ h₁ k e f = plain-punct w e z h₂ h₁ (leaf-close w e k)
-within (suc zero) w z h h₂ h₁ k e f = plain-ident w e z h₂ (leaf-close w e k)
-within (suc (suc zero)) w z h h₂ h₁ k e f = plain-literal w e z h₂ (leaf-close w e k)
+within zero w z h h₂ h₁ k e f = plain-punct w e z h₂ h₁ (leaf-close w k)
+within (suc zero) w z h h₂ h₁ k e f = plain-ident w e z h₂ (leaf-close w k)
+within (suc (suc zero)) w z h h₂ h₁ k e f = plain-literal w e z h₂ (leaf-close w k)
 within (suc (suc (suc zero))) w z h h₂ h₁ k e f = plain-subtree w e z h₂ f
 within (suc (suc (suc (suc x)))) w z h h₂ h₁ k e f = absurd (omega arith)
 
@@ -156,14 +166,14 @@ module _ (l : List ℕ) (n : ℕ) where
   pub close-low-not : false ≡ true → LowClose (wordOf l n)
   close-low-not q = never q
 
-  pub close-low-is : (x : ℕ) → x ≡ wordOf l n 0 → (c : ℕ) → c ≡ closeMost x → (d : ℕ) → d ≡ wordOf l n 8 + wordOf l n 9 + wordOf l n 10 + wordOf l n 11 + wordOf l n 12 → d ≤ c → true ≡ true → LowClose (wordOf l n)
+  pub close-low-is : (x : ℕ) → x ≡ wordOf l n 0 → (c : ℕ) → c ≡ closeMost x → (d : ℕ) → d ≡ spanSum (spanFrom (wordOf l n) closeAt) → d ≤ c → true ≡ true → LowClose (wordOf l n)
   close-low-is x e c ec d ed h q = record { close = rw (ec, ed, e) at h }
 
   pub plain-not : false ≡ true → wordFields (wordOf l n) ≡ true
   plain-not q = never q
 
   pub plain-is : (u : Bool) → (u ≡ true → Low (wordOf l n)) → not u ≡ false → (v : Bool) → (v ≡ true → LowClose (wordOf l n)) → not v ≡ false
-      → (x : Bool) → (x ≡ true → wordOf l n 6 + wordOf l n 7 ≤ 4294967295) → not x ≡ false → (y : Bool) → (y ≡ true → wordOf l n 11 + wordOf l n 12 ≤ 4294967295)
+      → (x : Bool) → (x ≡ true → Ends (spanFrom (wordOf l n) openAt)) → not x ≡ false → (y : Bool) → (y ≡ true → Ends (spanFrom (wordOf l n) closeAt))
       → y ≡ true → wordFields (wordOf l n) ≡ true
   plain-is u fu gu v fv gv x fx gx y fy gy =
       let a = fu (not-false u gu) in

@@ -6,6 +6,7 @@ use mathlib.Core.List.{List}
 use borrow.Author.Tests.{le-leb, lt-leb, eq-eqb, ne-eqb}
 use lib.Dec.{leb}
 use lib.ListN.{length}
+use Rattle.format.specs.Width.{partSize}
 use Rattle.format.specs.Tables.{tablesSized, ownTables}
 
 module _ (k : ℕ) where
@@ -33,10 +34,10 @@ module _ (p s : ℕ) where
     tables-fit h i = simp (le-leb _ _ g, le-leb _ _ h, le-leb _ _ i)
 
 module _ (parts symbols : List ℕ) where
-  pub words-odd : (length parts % 3 ≡ 0 → ⊥) → false ≡ ownTables parts symbols .sized
+  pub words-odd : (length parts % partSize ≡ 0 → ⊥) → false ≡ ownTables parts symbols .sized
   words-odd h = simp (ne-eqb _ _ h)
 
-  pub words-even : length parts % 3 ≡ 0 → (r : Bool) → r ≡ tablesSized (length parts / 3) (length symbols) → r ≡ ownTables parts symbols .sized
+  pub words-even : length parts % partSize ≡ 0 → (r : Bool) → r ≡ tablesSized (length parts / partSize) (length symbols) → r ≡ ownTables parts symbols .sized
   words-even h r e = e ∙ simp (eq-eqb _ _ h)
 
 pub ruleset sized-cases = (trees-none, trees-many, trees-fit, parts-few, parts-many, symbols-many, tables-fit, words-odd, words-even)

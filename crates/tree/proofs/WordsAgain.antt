@@ -1,17 +1,20 @@
--- A tree and its 13 words: the words of the tree that was read are those words, and the tree of a tree's words is that tree.
+-- A tree and its words: the words of the tree that was read are those words, and the tree of a tree's words is that tree.
 use Prim.Native.Nat.{ℕ, zero, suc, _+_, _*_, _/_, _%_, _≤_}
 use mathlib.Core.Bool.{Bool, true, false, _&&_, _||_}
 use mathlib.Core.Path.{_≡_, refl, sym, ap, _∙_}
+use mathlib.Core.List.{_∷_, _++_}
 use native.Mathlib.Omega.{arith}
 use native.Mathlib.Nat.{div-div-eq-div-mul}
-use borrow.Author.Tests.{leb-true, eqb-true}
+use borrow.Author.Tests.{leb-true}
 use lib.Dec.{leb, eqb}
 use lib.ListN.{length}
 use Rattle.format.specs.Test.{if_then_else_}
-use Rattle.format.specs.Span as format
+use Rattle.format.specs.Width.{openAt, closeAt, treeSize}
+use Rattle.format.specs.Part.{spanList, spanFrom, noSpan}
 use Rattle.format.specs.Fields.{spanFits, isScalar, isRawKind, fields}
-use Rattle.format.specs.WordList.{wordOf, thirteen, rawFrom, noClose, wordFields}
-use Rattle.format.proofs.Each.{and-left, and-right, and₃, and₄}
+use Rattle.format.specs.WordList.{wordOf, treeList, rawFrom, noClose, wordFields}
+use Rattle.format.proofs.Each.{and-left, and-right, and₃}
+use Rattle.format.proofs.PartLaw.{same-span}
 use Rattle.tree.specs.Types.{spacingOf, isRawOf, delimiterOf, litKindOf, spacingWord, isRawWord, delimiterWord, litKindWord, treeWordsOf}
 use Rattle.tree.specs.Words.{treeFrom, wordsAnswer, rawCount, endFits, tokenFits}
 use Rattle.tree.specs.declared.types.Spacing.{Spacing}
@@ -37,48 +40,43 @@ parts-of : (v : ℕ) → v / 65536 ≤ 255 → (v % 256 + 256 * (v / 256 % 256) 
 parts-of v h = omega (arith, div-div-eq-div-mul v 256 256)
 
 module _ (w : ℕ → ℕ) (h : wordFields w ≡ true) where
-  zero-words : noClose w ≡ true → (w 8 ≡ 0) × (w 9 ≡ 0) × (w 10 ≡ 0) × (w 11 ≡ 0) × (w 12 ≡ 0)
-  zero-words e =
-      let f = and-left (eqb (w 8) 0 && eqb (w 9) 0 && eqb (w 10) 0 && eqb (w 11) 0) (eqb (w 12) 0) e in
-      let g = and₄ (eqb (w 8) 0) (eqb (w 9) 0) (eqb (w 10) 0) (eqb (w 11) 0) f in
-      (eqb-true _ _ (g .0), eqb-true _ _ (g .1), eqb-true _ _ (g .2), eqb-true _ _ (g .3), eqb-true _ _ (and-right (eqb (w 8) 0 && eqb (w 9) 0 && eqb (w 10) 0 && eqb (w 11) 0) (eqb (w 12) 0) e))
+  -- the words of a leaf end with those of no span
+  leaf-list : noClose w ≡ true → (x y z : ℕ) → (x ∷ y ∷ z ∷ spanList (spanFrom w openAt) ++ spanList noSpan) ≡ (x ∷ y ∷ z ∷ spanList (spanFrom w openAt) ++ spanList (spanFrom w closeAt))
+  leaf-list e x y z = ap (λ s. x ∷ y ∷ z ∷ spanList (spanFrom w openAt) ++ spanList s) (sym (same-span (spanFrom w closeAt) noSpan e))
 
-  again-punct : w 0 ≡ 0 → treeWordsOf (treeFrom w) ≡ thirteen w
+  again-punct : w 0 ≡ 0 → treeWordsOf (treeFrom w) ≡ treeList w
   unfolding treeFrom treeWordsOf rawFrom
   again-punct e =
       let n : noClose w ≡ true = simp e at (three w h .2) in
-      let z = zero-words n in
       let k = spacing-again (w 2) (punct-fit w h e) in
-      simp (e, k, z .0, z .1, z .2, z .3, z .4)
+      simp (e, k) (leaf-list n 0 (w 1) (w 2))
 
-  again-ident : w 0 ≡ 1 → treeWordsOf (treeFrom w) ≡ thirteen w
+  again-ident : w 0 ≡ 1 → treeWordsOf (treeFrom w) ≡ treeList w
   unfolding treeFrom treeWordsOf rawFrom
   again-ident e =
       let n : noClose w ≡ true = simp e at (three w h .2) in
-      let z = zero-words n in
       let k = is-raw-again (w 2) (ident-fit w h e) in
-      simp (e, k, z .0, z .1, z .2, z .3, z .4)
+      simp (e, k) (leaf-list n 1 (w 1) (w 2))
 
-  again-literal : w 0 ≡ 2 → treeWordsOf (treeFrom w) ≡ thirteen w
+  again-literal : w 0 ≡ 2 → treeWordsOf (treeFrom w) ≡ treeList w
   unfolding treeFrom treeWordsOf rawFrom
   again-literal e =
       let n : noClose w ≡ true = simp e at (three w h .2) in
-      let z = zero-words n in
       let g = literal-fit w h e in
       let k = kind-again (w 2 % 256) (w 2 / 256 % 256) (leb-true (w 2 % 256) 10 (g .0)) (g .1) in
       let p = parts-of (w 2) (leb-true (w 2 / 65536) 255 (g .2)) in
-      simp (e, k, p, z .0, z .1, z .2, z .3, z .4)
+      simp (e, k, p) (leaf-list n 2 (w 1) (w 2))
 
-  again-subtree : w 0 ≡ 3 → treeWordsOf (treeFrom w) ≡ thirteen w
+  again-subtree : w 0 ≡ 3 → treeWordsOf (treeFrom w) ≡ treeList w
   unfolding treeFrom treeWordsOf rawFrom
   again-subtree e =
       let k = delimiter-again (w 2) (subtree-fit w h e) in
       simp (e, k)
 
-  pub tree-words-again : treeWordsOf (treeFrom w) ≡ thirteen w
+  pub tree-words-again : treeWordsOf (treeFrom w) ≡ treeList w
   tree-words-again = go (w 0) refl
     where
-      go : (k : ℕ) → w 0 ≡ k → treeWordsOf (treeFrom w) ≡ thirteen w
+      go : (k : ℕ) → w 0 ≡ k → treeWordsOf (treeFrom w) ≡ treeList w
       go zero e = again-punct e
       go (suc zero) e = again-ident e
       go (suc (suc zero)) e = again-literal e
@@ -92,11 +90,11 @@ got-same : (t u : TokenTree) → Got t ≡ Got u → t ≡ u
 got-same t u e = cc
 
 -- what `tree_from_words` gives has the words that it was read from
-pub words-of-tree : (w : ℕ → ℕ) (t : TokenTree) → wordsAnswer w ≡ Got t → treeWordsOf t ≡ thirteen w
+pub words-of-tree : (w : ℕ → ℕ) (t : TokenTree) → wordsAnswer w ≡ Got t → treeWordsOf t ≡ treeList w
 unfolding wordsAnswer
 words-of-tree w t e = go (wordFields w) refl
   where
-    go : (x : Bool) → wordFields w ≡ x → treeWordsOf t ≡ thirteen w
+    go : (x : Bool) → wordFields w ≡ x → treeWordsOf t ≡ treeList w
     go true f = let d : Got (treeFrom w) ≡ Got t = simp f at e in ap treeWordsOf (sym (got-same (treeFrom w) t d)) ∙ tree-words-again w f
     go false f = let d : Bad 2 ≡ Got t = simp f at e in got-bad t 2 d
 
@@ -191,9 +189,9 @@ tree-of-words (trees.Subtree p) e =
     let a = delimiter-back (p .kind) in
     simp (and-left (endFits (p .opening)) (endFits (p .closing)) e, and-right (endFits (p .opening)) (endFits (p .closing)) e, a .0, a .1)
 
-pub thirteen-long : (t : TokenTree) → length (treeWordsOf t) ≡ 13
+pub tree-long : (t : TokenTree) → length (treeWordsOf t) ≡ treeSize
 unfolding treeWordsOf
-thirteen-long (trees.Leaf (leaves.Punct p)) = refl
-thirteen-long (trees.Leaf (leaves.Ident p)) = refl
-thirteen-long (trees.Leaf (leaves.Literal p)) = refl
-thirteen-long (trees.Subtree p) = refl
+tree-long (trees.Leaf (leaves.Punct p)) = refl
+tree-long (trees.Leaf (leaves.Ident p)) = refl
+tree-long (trees.Leaf (leaves.Literal p)) = refl
+tree-long (trees.Subtree p) = refl

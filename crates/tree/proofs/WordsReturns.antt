@@ -1,17 +1,21 @@
 -- One law for each return of the functions of src/words.rt, with premises as the code's tests and calls give them.
 use Prim.Native.Nat.{ℕ, _+_, _*_, _/_, _%_, _<_, _≤_}
 use mathlib.Core.Bool.{Bool, true, false, not}
-use mathlib.Core.Path.{_≡_, sym, ap, _∙_}
+use mathlib.Core.Path.{_≡_, refl, sym, ap, _∙_}
 use mathlib.Core.List.{List}
 use native.Mathlib.Omega.{arith}
 use borrow.Author.Tests.{le-leb, lt-leb, eq-eqb, ne-eqb, not-true, not-false}
 use lib.Dec.{leb, eqb}
 use lib.ListN.{length, List·getD-eq-default}
+use Rattle.format.specs.Width.{partSize, closeAt, treeSize}
+use Rattle.format.specs.Part.{WordSpan, spanFrom, noSpan, sameSpan}
 use Rattle.format.specs.Tree.{Raw}
 use Rattle.format.specs.Fields.{fields}
 use Rattle.format.specs.WordList.{wordOf, rawFrom, noClose, wordFields}
+use Rattle.format.proofs.PartLaw.{same-span}
 use Rattle.pack.specs.declared.span.PackedSpan.{PackedSpan}
 use Rattle.tree.specs.Raw.{rawTree, rawOf}
+use Rattle.tree.specs.Listed.{openSpan, closeSpan}
 use Rattle.tree.specs.declared.raw.RawTree.{RawTree}
 use Rattle.tree.specs.declared.raw.RawTree.the-variants.{Punct, Ident, Literal, Subtree}
 use Rattle.tree.proofs.RawAgain.{raw-again}
@@ -19,11 +23,11 @@ use Rattle.tree.proofs.RawAgain.{raw-again}
 -- ---- one word
 
 module _ (l : List ℕ) (n j : ℕ) where
-  pub word-past : length l / 13 < n → 0 ≡ wordOf l n j
-  word-past h = sym (List·getD-eq-default l 0 {n = 13 * n + j} (omega arith))
+  pub word-past : length l / treeSize < n → 0 ≡ wordOf l n j
+  word-past h = sym (List·getD-eq-default l 0 {n = treeSize * n + j} (omega arith))
 
-  pub word-end : length l ≤ 13 * n + j → 0 ≡ wordOf l n j
-  word-end h = sym (List·getD-eq-default l 0 {n = 13 * n + j} h)
+  pub word-end : length l ≤ treeSize * n + j → 0 ≡ wordOf l n j
+  word-end h = sym (List·getD-eq-default l 0 {n = treeSize * n + j} h)
 
 pub span-words : (i s t : ℕ) (x y : ℕ) → x ≡ s → y ≡ t → _≡_ {A = PackedSpan} (record { index = i; start = x; len = y }) (record { index = i; start = s; len = t })
 span-words i s t x y e f = rw (e, f)
@@ -34,7 +38,7 @@ span-words i s t x y e f = rw (e, f)
 pub words-raw : (l : List ℕ) (n o c y : ℕ) (r : RawTree) → r ≡ rawTree (rawFrom o c y (wordOf l n)) → rawOf r ≡ rawFrom o c y (wordOf l n)
 words-raw l n o c y r e = ap rawOf e ∙ raw-again (rawFrom o c y (wordOf l n))
 
-module _ (l : List ℕ) (n o c y w₀ : ℕ) (e₀ : w₀ ≡ wordOf l n 0) (p : PackedSpan) (f : p ≡ record { index = o; start = wordOf l n 6; len = wordOf l n 7 }) where
+module _ (l : List ℕ) (n o c y w₀ : ℕ) (e₀ : w₀ ≡ wordOf l n 0) (p : PackedSpan) (f : p ≡ openSpan l n o) where
   pub words-punct : w₀ ≡ 0 → (w₁ w₂ : ℕ) → w₁ ≡ wordOf l n 1 → w₂ ≡ wordOf l n 2 → Punct (record { span = p; char = w₁; spacing = w₂ }) ≡ rawTree (rawFrom o c y (wordOf l n))
   unfolding rawTree rawFrom
   words-punct h w₁ w₂ e₁ e₂ =
@@ -62,7 +66,7 @@ module _ (l : List ℕ) (n o c y w₀ : ℕ) (e₀ : w₀ ≡ wordOf l n 0) (p :
           let z : eqb (wordOf l n 0) 2 ≡ true = eq-eqb _ _ (sym e₀ ∙ h) in
           rw (f, e₂) (simp (not-0, not-1, z))
 
-      pub words-subtree : (w₀ ≡ 2 → ⊥) → (w₁ w₂ : ℕ) → w₁ ≡ wordOf l n 1 → w₂ ≡ wordOf l n 2 → (q : PackedSpan) → q ≡ record { index = c; start = wordOf l n 11; len = wordOf l n 12 }
+      pub words-subtree : (w₀ ≡ 2 → ⊥) → (w₁ w₂ : ℕ) → w₁ ≡ wordOf l n 1 → w₂ ≡ wordOf l n 2 → (q : PackedSpan) → q ≡ closeSpan l n c
           → Subtree (record { opening = p; closing = q; len = record { 0 = w₁ }; kind = w₂ }) ≡ rawTree (rawFrom o c y (wordOf l n))
       unfolding rawTree rawFrom
       words-subtree h w₁ w₂ e₁ e₂ q k =
@@ -73,42 +77,37 @@ pub ruleset raw-words-cases = (word-past, word-end, span-words, words-punct, wor
 
 -- ---- row 2
 
-module _ (l : List ℕ) (n x₁ : ℕ) (e₁ : x₁ ≡ wordOf l n 8) where
-  pub close-8 : (x₁ ≡ 0 → ⊥) → false ≡ noClose (wordOf l n)
-  close-8 h = let a : eqb (wordOf l n 8) 0 ≡ false = ne-eqb _ _ (λ i. h (e₁ ∙ i)) in simp a
+-- a field of the closing span that is not zero
+close-not : (f : WordSpan → ℕ) (s : WordSpan) → (f s ≡ f noSpan → ⊥) → false ≡ sameSpan s noSpan
+close-not f s h = go (sameSpan s noSpan) refl
+  where
+    go : (b : Bool) → sameSpan s noSpan ≡ b → false ≡ sameSpan s noSpan
+    go true e = absurd (h (ap f (same-span s noSpan e)))
+    go false e = sym e
 
-  module _ (h₁ : x₁ ≡ 0) (x₂ : ℕ) (e₂ : x₂ ≡ wordOf l n 9) where
-    zero-8 : eqb (wordOf l n 8) 0 ≡ true
-    zero-8 = eq-eqb _ _ (sym e₁ ∙ h₁)
+module _ (l : List ℕ) (n x : ℕ) where
+  pub close-file : x ≡ wordOf l n closeAt → (x ≡ 0 → ⊥) → false ≡ noClose (wordOf l n)
+  close-file e h = close-not (λ s. s .part .file) (spanFrom (wordOf l n) closeAt) (λ q. h (e ∙ q))
 
-    pub close-9 : (x₂ ≡ 0 → ⊥) → false ≡ noClose (wordOf l n)
-    close-9 h = let a : eqb (wordOf l n 9) 0 ≡ false = ne-eqb _ _ (λ i. h (e₂ ∙ i)) in simp (zero-8, a)
+  pub close-ast : x ≡ wordOf l n (closeAt + 1) → (x ≡ 0 → ⊥) → false ≡ noClose (wordOf l n)
+  close-ast e h = close-not (λ s. s .part .ast) (spanFrom (wordOf l n) closeAt) (λ q. h (e ∙ q))
 
-    module _ (h₂ : x₂ ≡ 0) (x₃ : ℕ) (e₃ : x₃ ≡ wordOf l n 10) where
-      zero-9 : eqb (wordOf l n 9) 0 ≡ true
-      zero-9 = eq-eqb _ _ (sym e₂ ∙ h₂)
+  pub close-context : x ≡ wordOf l n (closeAt + 2) → (x ≡ 0 → ⊥) → false ≡ noClose (wordOf l n)
+  close-context e h = close-not (λ s. s .part .context) (spanFrom (wordOf l n) closeAt) (λ q. h (e ∙ q))
 
-      pub close-10 : (x₃ ≡ 0 → ⊥) → false ≡ noClose (wordOf l n)
-      close-10 h = let a : eqb (wordOf l n 10) 0 ≡ false = ne-eqb _ _ (λ i. h (e₃ ∙ i)) in simp (zero-8, zero-9, a)
+  pub close-start : x ≡ wordOf l n (closeAt + partSize) → (x ≡ 0 → ⊥) → false ≡ noClose (wordOf l n)
+  close-start e h = close-not (λ s. s .start) (spanFrom (wordOf l n) closeAt) (λ q. h (e ∙ q))
 
-      module _ (h₃ : x₃ ≡ 0) (x₄ : ℕ) (e₄ : x₄ ≡ wordOf l n 11) where
-        zero-10 : eqb (wordOf l n 10) 0 ≡ true
-        zero-10 = eq-eqb _ _ (sym e₃ ∙ h₃)
+  pub close-len : x ≡ wordOf l n (closeAt + partSize + 1) → (x ≡ 0 → ⊥) → false ≡ noClose (wordOf l n)
+  close-len e h = close-not (λ s. s .len) (spanFrom (wordOf l n) closeAt) (λ q. h (e ∙ q))
 
-        pub close-11 : (x₄ ≡ 0 → ⊥) → false ≡ noClose (wordOf l n)
-        close-11 h = let a : eqb (wordOf l n 11) 0 ≡ false = ne-eqb _ _ (λ i. h (e₄ ∙ i)) in simp (zero-8, zero-9, zero-10, a)
+pub close-none : (l : List ℕ) (n f a c s m : ℕ) → f ≡ wordOf l n closeAt → f ≡ 0 → a ≡ wordOf l n (closeAt + 1) → a ≡ 0 → c ≡ wordOf l n (closeAt + 2) → c ≡ 0
+    → s ≡ wordOf l n (closeAt + partSize) → s ≡ 0 → m ≡ wordOf l n (closeAt + partSize + 1) → m ≡ 0 → true ≡ noClose (wordOf l n)
+close-none l n f a c s m ef zf ea za ec zc es zs em zm =
+    let z : (x j : ℕ) → x ≡ wordOf l n j → x ≡ 0 → eqb (wordOf l n j) 0 ≡ true = λ x j e h. eq-eqb (wordOf l n j) 0 (sym e ∙ h) in
+    simp (z f closeAt ef zf, z a (closeAt + 1) ea za, z c (closeAt + 2) ec zc, z s (closeAt + partSize) es zs, z m (closeAt + partSize + 1) em zm)
 
-        module _ (h₄ : x₄ ≡ 0) (x₅ : ℕ) (e₅ : x₅ ≡ wordOf l n 12) where
-          zero-11 : eqb (wordOf l n 11) 0 ≡ true
-          zero-11 = eq-eqb _ _ (sym e₄ ∙ h₄)
-
-          pub close-12 : (x₅ ≡ 0 → ⊥) → false ≡ noClose (wordOf l n)
-          close-12 h = let a : eqb (wordOf l n 12) 0 ≡ false = ne-eqb _ _ (λ i. h (e₅ ∙ i)) in simp (zero-8, zero-9, zero-10, zero-11, a)
-
-          pub close-none : x₅ ≡ 0 → true ≡ noClose (wordOf l n)
-          close-none h = let a : eqb (wordOf l n 12) 0 ≡ true = eq-eqb _ _ (sym e₅ ∙ h) in simp (zero-8, zero-9, zero-10, zero-11, a)
-
-pub ruleset close-cases = (close-8, close-9, close-10, close-11, close-12, close-none)
+pub ruleset close-cases = (close-file, close-ast, close-context, close-start, close-len, close-none)
 
 pub sort-3 : (l : List ℕ) (n w₀ : ℕ) → w₀ ≡ wordOf l n 0 → w₀ ≤ 3 → wordOf l n 0 ≤ 3
 sort-3 l n w₀ e h = omega arith

@@ -8,10 +8,12 @@ use borrow.Author.Tests.{leb-true, eq-eqb, ne-eqb, not-true, not-false}
 use lib.Dec.{leb, eqb}
 use Rattle.format.specs.Test.{if_then_else_}
 use Rattle.format.specs.Fields.{isRawKind}
+use Rattle.format.specs.Width.{partSize, openAt, closeAt}
+use Rattle.format.specs.Part.{spanFrom}
 use Rattle.format.specs.WordList.{wordOf, rawFrom, wordFields}
 use Rattle.tree.specs.Raw.{rawTree}
-use Rattle.tree.specs.Types.{spacingAnswer, isRawAnswer, delimiterAnswer, litKindAnswer, spacingWord, isRawWord, delimiterWord, litKindWord, spanList, zeros, treeWordsOf}
-use Rattle.tree.specs.Words.{spanFrom, punctFrom, identFrom, literalFrom, subtreeFrom, treeFrom, wordsAnswer, rawWordsAnswer}
+use Rattle.tree.specs.Types.{spacingAnswer, isRawAnswer, delimiterAnswer, litKindAnswer, spacingWord, isRawWord, delimiterWord, litKindWord, treeSpan, spanList, zeros, treeWordsOf}
+use Rattle.tree.specs.Words.{punctFrom, identFrom, literalFrom, subtreeFrom, treeFrom, wordsAnswer, rawWordsAnswer}
 use Rattle.tree.specs.declared.types.Span.{Span}
 use Rattle.tree.specs.declared.types.Spacing.{Spacing}
 use Rattle.tree.specs.declared.types.IdentIsRaw.{IdentIsRaw}
@@ -42,8 +44,8 @@ use Rattle.tree.proofs.WordsFit.{three, punct-fit, ident-fit, literal-f
 
 -- ---- the tree of the words
 
-pub span-from : (l : List ℕ) (n j a b c d e : ℕ) → a ≡ wordOf l n j → b ≡ wordOf l n (j + 1) → c ≡ wordOf l n (j + 2) → d ≡ wordOf l n (j + 3) → e ≡ wordOf l n (j + 4)
-    → _≡_ {A = Span} (record { file = a; «ast_id» = b; context = c; start = d; len = e }) (spanFrom (wordOf l n) j)
+pub span-from : (l : List ℕ) (n j a b c d e : ℕ) → a ≡ wordOf l n j → b ≡ wordOf l n (j + 1) → c ≡ wordOf l n (j + 2) → d ≡ wordOf l n (j + partSize) → e ≡ wordOf l n (j + partSize + 1)
+    → _≡_ {A = Span} (record { file = a; «ast_id» = b; context = c; start = d; len = e }) (treeSpan (spanFrom (wordOf l n) j))
 span-from l n j a b c d e p q r s t = rw (p, q, r, s, t)
 
 module _ (x y : ℕ) (s : Span) where
@@ -98,7 +100,7 @@ module _ (l : List ℕ) (n w₀ w₂ : ℕ) (h : wordFields (wordOf l n) ≡ tru
       let k = subtree-fit (wordOf l n) h q in
       omega arith
 
-module _ (l : List ℕ) (n w₀ w₁ w₂ : ℕ) (e₀ : w₀ ≡ wordOf l n 0) (e₁ : w₁ ≡ wordOf l n 1) (e₂ : w₂ ≡ wordOf l n 2) (s : Span) (f : s ≡ spanFrom (wordOf l n) 3) (r : WordsRead) where
+module _ (l : List ℕ) (n w₀ w₁ w₂ : ℕ) (e₀ : w₀ ≡ wordOf l n 0) (e₁ : w₁ ≡ wordOf l n 1) (e₂ : w₂ ≡ wordOf l n 2) (s : Span) (f : s ≡ treeSpan (spanFrom (wordOf l n) openAt)) (r : WordsRead) where
   pub whole-punct : w₀ ≡ 0 → r ≡ Got (punctFrom w₁ w₂ s) → r ≡ Got (treeFrom (wordOf l n))
   unfolding treeFrom
   whole-punct h q =
@@ -125,7 +127,7 @@ module _ (l : List ℕ) (n w₀ w₁ w₂ : ℕ) (e₀ : w₀ ≡ wordOf l n 0) 
           let z : eqb (wordOf l n 0) 2 ≡ true = eq-eqb _ _ (sym e₀ ∙ h) in
           q ∙ rw (f, e₁, e₂) (simp (not-0, not-1, z))
 
-      pub whole-subtree : (w₀ ≡ 2 → ⊥) → (t : Span) → t ≡ spanFrom (wordOf l n) 8 → r ≡ Got (subtreeFrom w₁ w₂ s t) → r ≡ Got (treeFrom (wordOf l n))
+      pub whole-subtree : (w₀ ≡ 2 → ⊥) → (t : Span) → t ≡ treeSpan (spanFrom (wordOf l n) closeAt) → r ≡ Got (subtreeFrom w₁ w₂ s t) → r ≡ Got (treeFrom (wordOf l n))
       unfolding treeFrom
       whole-subtree h t k q =
           let z : eqb (wordOf l n 0) 2 ≡ false = ne-eqb _ _ (λ i. h (e₀ ∙ i)) in
@@ -199,4 +201,4 @@ module _ (r : List ℕ) (t : TokenTree) where
   unfolding treeWordsOf
   subtree-words p x e f g = g ∙ rw (e, f)
 
-pub ruleset thirteen-cases = (punct-words, ident-words, literal-words, leaf-words, subtree-words)
+pub ruleset list-cases = (punct-words, ident-words, literal-words, leaf-words, subtree-words)

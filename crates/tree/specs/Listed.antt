@@ -1,7 +1,10 @@
 -- A tree of a list as a value of each sort, with the indices that it is given.
 use Prim.Native.Nat.{ℕ, _/_, _%_}
 use mathlib.Core.List.{List}
+use Rattle.format.specs.Width.{openAt, closeAt}
+use Rattle.format.specs.Part.{spanFrom, indexed}
 use Rattle.format.specs.WordList.{wordOf}
+use Rattle.pack.specs.Answer.{packedOf}
 use Rattle.pack.specs.declared.span.PackedSpan.{PackedSpan}
 use Rattle.tree.specs.declared.raw.RawPunct.{RawPunct}
 use Rattle.tree.specs.declared.raw.RawIdent.{RawIdent}
@@ -10,10 +13,10 @@ use Rattle.tree.specs.declared.raw.RawSubtree.{RawSubtree}
 
 module _ (l : List ℕ) (n : ℕ) where
   abbrev pub openSpan : ℕ → PackedSpan
-  openSpan i = record { index = i; start = wordOf l n 6; len = wordOf l n 7 }
+  openSpan i = packedOf (indexed i (spanFrom (wordOf l n) openAt))
 
   abbrev pub closeSpan : ℕ → PackedSpan
-  closeSpan i = record { index = i; start = wordOf l n 11; len = wordOf l n 12 }
+  closeSpan i = packedOf (indexed i (spanFrom (wordOf l n) closeAt))
 
   abbrev pub punctAt : ℕ → RawPunct
   punctAt i = record { span = openSpan i; char = wordOf l n 1; spacing = wordOf l n 2 }

@@ -7,7 +7,8 @@ use lib.Dec.{leb, eqb}
 use Rattle.format.specs.Test.{if_then_else_}
 use Rattle.format.specs.Fields.{isRawKind}
 use Rattle.format.specs.Span as format
-use Rattle.format.specs.Root.{WordSpan}
+use Rattle.format.specs.Part as words
+use Rattle.format.specs.Part.{WordSpan, partAt, noSpan}
 use Rattle.format.specs.Tree.{Raw, punct, ident, literal, subtree}
 use Rattle.tree.specs.declared.types.Span.{Span}
 use Rattle.tree.specs.declared.types.Spacing.{Spacing}
@@ -75,17 +76,25 @@ delimiterAnswer d = if leb d 3 then delimiters.Got (delimiterOf d) else delimite
 unfoldable pub litKindAnswer : ℕ → ℕ → LitKindRead
 litKindAnswer k r = if leb k 10 && (if isRawKind k then leb r 255 else eqb r 0) then kinds.Got (litKindOf k r) else kinds.Bad 2
 
--- ---- by the entries of the tables
+-- ---- the definitions' span of the source's, and back
 
-abbrev pub spanWith : List ℕ → format.Span → Span
-spanWith parts s =
+abbrev pub wordsOf : Span → WordSpan
+wordsOf s = record { part = record { file = s .file; ast = s .«ast_id»; context = s .context }; start = s .start; len = s .len }
+
+abbrev pub treeSpan : WordSpan → Span
+treeSpan s =
     record {
-      file = getD parts (3 * s .index) 0;
-      «ast_id» = getD parts (3 * s .index + 1) 0;
-      context = getD parts (3 * s .index + 2) 0;
+      file = s .part .file;
+      «ast_id» = s .part .ast;
+      context = s .part .context;
       start = s .start;
       len = s .len;
     }
+
+-- ---- by the entries of the tables
+
+abbrev pub spanWith : List ℕ → format.Span → Span
+spanWith parts s = treeSpan (record { part = partAt parts (s .index); start = s .start; len = s .len })
 
 abbrev pub punctWith : List ℕ → format.Span → ℕ → ℕ → Leaf
 punctWith parts s c x = leaves.Punct (record { char = c; spacing = spacingOf x; span = spanWith parts s })
@@ -138,14 +147,11 @@ litKindWord (CStrRaw r) = 9 + 256 * r
 litKindWord Err = 10
 
 abbrev pub spanList : Span → List ℕ
-spanList s = s .file ∷ s .«ast_id» ∷ s .context ∷ s .start ∷ s .len ∷ []
+spanList s = words.spanList (wordsOf s)
 
--- the definitions' span of a lent one
-abbrev pub wordsOf : Span → WordSpan
-wordsOf s = record { file = s .file; ast = s .«ast_id»; context = s .context; start = s .start; len = s .len }
-
+-- "zero in a leaf"
 abbrev pub zeros : List ℕ
-zeros = 0 ∷ 0 ∷ 0 ∷ 0 ∷ 0 ∷ []
+zeros = words.spanList noSpan
 
 -- a word is a u32: a raw count or a suffix length that row 2 refuses may pass it, and what is past it falls away
 unfoldable pub treeWordsOf : TokenTree → List ℕ

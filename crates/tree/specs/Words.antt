@@ -4,10 +4,13 @@ use mathlib.Core.Bool.{Bool, _&&_}
 use lib.Dec.{leb, eqb}
 use Rattle.format.specs.Test.{if_then_else_}
 use Rattle.format.specs.Span as format
-use Rattle.format.specs.Fields.{spanFits, isScalar}
+use Rattle.format.specs.Fields.{isScalar}
+use Rattle.format.specs.Width.{openAt, closeAt}
+use Rattle.format.specs.Part.{spanFrom}
+use Rattle.format.specs.Root.{rangeFits}
 use Rattle.format.specs.WordList.{rawFrom, wordFields}
 use Rattle.tree.specs.Raw.{rawTree}
-use Rattle.tree.specs.Types.{spacingOf, isRawOf, delimiterOf, litKindOf}
+use Rattle.tree.specs.Types.{spacingOf, isRawOf, delimiterOf, litKindOf, wordsOf, treeSpan}
 use Rattle.tree.specs.declared.types.Span.{Span}
 use Rattle.tree.specs.declared.types.LitKind.{LitKind}
 use Rattle.tree.specs.declared.types.LitKind.the-variants.{StrRaw, ByteStrRaw, CStrRaw, Byte, Char, Integer, Float, Str, ByteStr, CStr, Err}
@@ -18,10 +21,6 @@ use Rattle.tree.specs.declared.words.WordsRead.{WordsRead}
 use Rattle.tree.specs.declared.words.WordsRead.the-variants.{Got, Bad}
 use Rattle.tree.specs.declared.words.RawWords.{RawWords}
 use Rattle.tree.specs.declared.words.RawWords.the-variants as raws
-
--- "Words 3 to 7: the span, or the opening one: file, ast id, context, start, length. Words 8 to 12: the closing span"
-abbrev pub spanFrom : (ℕ → ℕ) → ℕ → Span
-spanFrom w j = record { file = w j; «ast_id» = w (j + 1); context = w (j + 2); start = w (j + 3); len = w (j + 4) }
 
 -- "Word 0: 0 punct, 1 ident, 2 literal, 3 subtree. Words 1, 2: punct character, spacing; ident symbol, raw;
 -- literal symbol, then kind + 256 × raw count + 65,536 × suffix length; subtree descendant count, delimiter kind"
@@ -38,12 +37,14 @@ module _ (x y : ℕ) (s : Span) where
   abbrev pub subtreeFrom : Span → TokenTree
   subtreeFrom t = trees.Subtree (record { opening = s; closing = t; len = record { 0 = x }; kind = delimiterOf y })
 
+-- "Words 3 to 7: the span, or the opening one"; "Words 8 to 12: the closing span"
 unfoldable pub treeFrom : (ℕ → ℕ) → TokenTree
 treeFrom w =
-    if eqb (w 0) 0 then punctFrom (w 1) (w 2) (spanFrom w 3) else
-    (if eqb (w 0) 1 then identFrom (w 1) (w 2) (spanFrom w 3) else
-    (if eqb (w 0) 2 then literalFrom (w 1) (w 2) (spanFrom w 3) else
-    subtreeFrom (w 1) (w 2) (spanFrom w 3) (spanFrom w 8)))
+    let s = treeSpan (spanFrom w openAt) in
+    if eqb (w 0) 0 then punctFrom (w 1) (w 2) s else
+    (if eqb (w 0) 1 then identFrom (w 1) (w 2) s else
+    (if eqb (w 0) 2 then literalFrom (w 1) (w 2) s else
+    subtreeFrom (w 1) (w 2) s (treeSpan (spanFrom w closeAt))))
 
 -- row 2 first
 unfoldable pub wordsAnswer : (ℕ → ℕ) → WordsRead
@@ -69,7 +70,7 @@ rawCount (CStrRaw r) = r
 rawCount Err = 0
 
 abbrev pub endFits : Span → Bool
-endFits s = spanFits (record { index = 0; start = s .start; len = s .len })
+endFits s = rangeFits (wordsOf s)
 
 unfoldable pub tokenFits : TokenTree → Bool
 tokenFits (trees.Leaf (leaves.Punct p)) = endFits (p .span) && isScalar (p .char)

@@ -5,6 +5,11 @@ use crate::raw::RawLiteral;
 use crate::raw::RawPunct;
 use crate::raw::RawSubtree;
 use pack::span::PackedSpan;
+use width::CLOSE_LEN;
+use width::CLOSE_START;
+use width::OPEN_LEN;
+use width::OPEN_START;
+use width::TREE_WORDS;
 ghost use mathlib.Core.Path.{_≡_};
 ghost use Prim.Native.Nat.{_<_};
 ghost use Rattle.format.specs.WordList.{listCount, wordOf};
@@ -15,7 +20,7 @@ pub fn sort_at(l: &[u32], n: usize) -> u32
     requires { ⌜ n < listCount (now l) ⌝ }
     ensures { λ r. ⌜ r ≡ wordOf (now (l .entry)) n 0 ⌝ }
 {
-    l[13 * n + 0]
+    l[TREE_WORDS * n + 0]
 }
 
 // The span, or the opening one.
@@ -25,8 +30,8 @@ pub fn open_span(l: &[u32], n: usize, index: u32) -> PackedSpan
 {
     PackedSpan {
         index: index,
-        start: l[13 * n + 6],
-        len: l[13 * n + 7],
+        start: l[TREE_WORDS * n + OPEN_START],
+        len: l[TREE_WORDS * n + OPEN_LEN],
     }
 }
 
@@ -36,8 +41,8 @@ fn close_span(l: &[u32], n: usize, index: u32) -> PackedSpan
 {
     PackedSpan {
         index: index,
-        start: l[13 * n + 11],
-        len: l[13 * n + 12],
+        start: l[TREE_WORDS * n + CLOSE_START],
+        len: l[TREE_WORDS * n + CLOSE_LEN],
     }
 }
 
@@ -48,8 +53,8 @@ pub fn punct_at(l: &[u32], n: usize, index: u32) -> RawPunct
     let span = open_span(l, n, index);
     RawPunct {
         span: span,
-        char: l[13 * n + 1],
-        spacing: l[13 * n + 2],
+        char: l[TREE_WORDS * n + 1],
+        spacing: l[TREE_WORDS * n + 2],
     }
 }
 
@@ -61,7 +66,7 @@ pub fn ident_at(l: &[u32], n: usize, index: u32, symbol: u32) -> RawIdent
     RawIdent {
         span: span,
         symbol: symbol,
-        raw: l[13 * n + 2],
+        raw: l[TREE_WORDS * n + 2],
     }
 }
 
@@ -70,7 +75,7 @@ pub fn literal_at(l: &[u32], n: usize, index: u32, symbol: u32) -> RawLiteral
     ensures { λ r. ⌜ r ≡ literalAt (now (l .entry)) n index symbol ⌝ }
 {
     let span = open_span(l, n, index);
-    let second = l[13 * n + 2];
+    let second = l[TREE_WORDS * n + 2];
     RawLiteral {
         span: span,
         symbol: symbol,
@@ -89,7 +94,7 @@ pub fn subtree_at(l: &[u32], n: usize, open_index: u32, close_index: u32) -> Raw
     RawSubtree {
         opening: opening,
         closing: closing,
-        len: Descendants(l[13 * n + 1]),
-        kind: l[13 * n + 2],
+        len: Descendants(l[TREE_WORDS * n + 1]),
+        kind: l[TREE_WORDS * n + 2],
     }
 }

@@ -3,11 +3,25 @@
 use crate::listed::sort_at;
 use crate::words::word_fields;
 use pack::span::range_fits;
+use width::CLOSE_AST;
+use width::CLOSE_CONTEXT;
+use width::CLOSE_FILE;
+use width::CLOSE_LEN;
+use width::CLOSE_START;
+use width::OPEN_LEN;
+use width::OPEN_START;
+use width::SPAN_WORDS;
+use width::TREE_WORDS;
 ghost use mathlib.Core.Path.{_≡_};
 ghost use mathlib.Core.Bool.{true};
 ghost use Prim.Native.Nat.{_+_, _<_, _≤_};
+ghost use Rattle.format.specs.Width.{closeAt};
+ghost use Rattle.format.specs.Part.{spanFrom};
 ghost use Rattle.format.specs.WordList.{listCount, wordOf, wordFields};
-ghost use Rattle.tree.specs.Plain.{secondMost, firstMost, closeMost, Low, LowClose};
+ghost use Rattle.tree.specs.Plain.{secondMost, firstMost, closeMost, spanSum, Low, LowClose};
+
+// No sum of a closing span's words is above it.
+const CLOSE_MOST: u64 = SPAN_WORDS as u64 * 4294967295;
 
 fn second_most(sort: u32) -> u32
     ensures { λ r. ⌜ r ≡ secondMost sort ⌝ }
@@ -33,7 +47,7 @@ fn close_most(sort: u32) -> u64
     ensures { λ r. ⌜ r ≡ closeMost sort ⌝ }
 {
     match sort {
-        3 => 21474836475,
+        3 => CLOSE_MOST,
         _ => 0,
     }
 }
@@ -46,14 +60,13 @@ fn wide(x: u32) -> u64
 
 fn close_sum(l: &[u32], n: usize) -> u64
     requires { ⌜ n < listCount (now l) ⌝ }
-    ensures { λ r. ⌜ r ≡ wordOf (now (l .entry)) n 8 + wordOf (now (l .entry)) n 9 + wordOf (now (l .entry)) n 10
-        + wordOf (now (l .entry)) n 11 + wordOf (now (l .entry)) n 12 ⌝ }
+    ensures { λ r. ⌜ r ≡ spanSum (spanFrom (wordOf (now (l .entry)) n) closeAt) ⌝ }
 {
-    wide(l[13 * n + 8])
-        + wide(l[13 * n + 9])
-        + wide(l[13 * n + 10])
-        + wide(l[13 * n + 11])
-        + wide(l[13 * n + 12])
+    wide(l[TREE_WORDS * n + CLOSE_FILE])
+        + wide(l[TREE_WORDS * n + CLOSE_AST])
+        + wide(l[TREE_WORDS * n + CLOSE_CONTEXT])
+        + wide(l[TREE_WORDS * n + CLOSE_START])
+        + wide(l[TREE_WORDS * n + CLOSE_LEN])
 }
 
 fn span_ends(start: u32, len: u32) -> bool
@@ -71,16 +84,16 @@ fn is_low(l: &[u32], n: usize) -> bool
     if 3 < sort {
         return false;
     }
-    if second_most(sort) < l[13 * n + 2] {
+    if second_most(sort) < l[TREE_WORDS * n + 2] {
         return false;
     }
-    if first_most(sort) < l[13 * n + 1] {
+    if first_most(sort) < l[TREE_WORDS * n + 1] {
         return false;
     }
     true
 }
 
-// Whether the sum of words 8 to 12 does.
+// Whether the sum of the closing span's words does.
 fn is_low_close(l: &[u32], n: usize) -> bool
     requires { ⌜ n < listCount (now l) ⌝ }
     ensures { λ r. ⌜ ((r ≡ true) → LowClose (wordOf (now (l .entry)) n)) ⌝ }
@@ -102,10 +115,13 @@ fn is_plain(l: &[u32], n: usize) -> bool
     if !is_low_close(l, n) {
         return false;
     }
-    if !span_ends(l[13 * n + 6], l[13 * n + 7]) {
+    if !span_ends(l[TREE_WORDS * n + OPEN_START], l[TREE_WORDS * n + OPEN_LEN]) {
         return false;
     }
-    span_ends(l[13 * n + 11], l[13 * n + 12])
+    span_ends(
+        l[TREE_WORDS * n + CLOSE_START],
+        l[TREE_WORDS * n + CLOSE_LEN],
+    )
 }
 
 // Whether row 2 is silent at tree n.

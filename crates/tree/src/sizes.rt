@@ -1,4 +1,5 @@
 // Row 1: how many trees, parts and symbols there may be.
+use width::PART_WORDS;
 ghost use mathlib.Core.Path.{_≡_};
 ghost use mathlib.Core.Bool.{_&&_};
 ghost use lib.Dec.{leb};
@@ -41,12 +42,12 @@ pub fn counts_sized(parts: usize, symbols: usize) -> bool
     true
 }
 
-// These part words and symbols. A part is three words.
+// These part words and symbols.
 pub fn tables_sized(parts: &[u32], symbols: &[u32]) -> bool
     ensures { λ r. ⌜ r ≡ ownTables (now (parts .entry)) (now (symbols .entry)) .sized ⌝ }
 {
-    if parts.len() % 3 != 0 {
+    if parts.len() % PART_WORDS != 0 {
         return false;
     }
-    counts_sized(parts.len() / 3, symbols.len())
+    counts_sized(parts.len() / PART_WORDS, symbols.len())
 }

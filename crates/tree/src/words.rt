@@ -1,4 +1,4 @@
-// One tree by its 13 list words, where row 2 is silent on them, and its words again.
+// One tree by its list words, where row 2 is silent on them, and its words again.
 use crate::fields::tree_fits;
 use crate::kinds::DelimiterRead;
 use crate::kinds::IsRawRead;
@@ -27,6 +27,17 @@ use crate::types::Span;
 use crate::types::Subtree;
 use crate::types::TokenTree;
 use pack::span::PackedSpan;
+use width::CLOSE_AST;
+use width::CLOSE_AT;
+use width::CLOSE_CONTEXT;
+use width::CLOSE_FILE;
+use width::CLOSE_LEN;
+use width::CLOSE_START;
+use width::OPEN_AT;
+use width::OPEN_LEN;
+use width::OPEN_START;
+use width::PART_WORDS;
+use width::TREE_WORDS;
 ghost use mathlib.Core.Path.{_≡_};
 ghost use mathlib.Core.List.{_∷_, _++_};
 ghost use mathlib.Core.Bool.{true};
@@ -34,11 +45,14 @@ ghost use Prim.Native.Nat.{_+_, _*_, _/_, _%_, _<_, _≤_};
 ghost use lib.Dec.{leb, eqb};
 ghost use Rattle.format.specs.Test.{if_then_else_};
 ghost use Rattle.format.specs.Fields.{isRawKind};
+ghost use Rattle.format.specs.Width.{spanSize, treeSize};
+ghost use Rattle.format.specs.Part.{spanFrom};
 ghost use Rattle.format.specs.WordList.{wordOf, rawFrom, noClose, wordFields};
+ghost use Rattle.tree.specs.Listed.{openSpan, closeSpan};
 ghost use Rattle.tree.specs.Raw.{rawTree};
-ghost use Rattle.tree.specs.Types.{litKindWord, spanList, treeWordsOf};
+ghost use Rattle.tree.specs.Types.{litKindWord, treeSpan, spanList, treeWordsOf};
 ghost use Rattle.tree.specs.declared.types.TokenTree.the-variants as trees;
-ghost use Rattle.tree.specs.Words.{spanFrom, treeFrom, wordsAnswer, rawWordsAnswer};
+ghost use Rattle.tree.specs.Words.{treeFrom, wordsAnswer, rawWordsAnswer};
 ghost use Rattle.tree.specs.Words.{punctFrom, identFrom, literalFrom, subtreeFrom};
 ghost use Rattle.tree.specs.declared.words.WordsRead.the-variants as reads;
 
@@ -56,13 +70,13 @@ pub enum RawWords {
 
 // Word j of tree n.
 fn word(l: &[u32], n: usize, j: usize) -> u32
-    requires { ⌜ j < 13 ⌝ }
+    requires { ⌜ j < treeSize ⌝ }
     ensures { λ r. ⌜ r ≡ wordOf (now (l .entry)) n j ⌝ }
 {
-    if l.len() / 13 < n {
+    if l.len() / TREE_WORDS < n {
         return 0;
     }
-    let i = 13 * n + j;
+    let i = TREE_WORDS * n + j;
     if l.len() <= i {
         return 0;
     }
@@ -70,12 +84,10 @@ fn word(l: &[u32], n: usize, j: usize) -> u32
 }
 
 fn leaf_span(l: &[u32], n: usize, index: u32) -> PackedSpan
-    ensures { λ r. ⌜
-        r ≡ record { index = index; start = wordOf (now (l .entry)) n 6; len = wordOf (now (l .entry)) n 7 }
-        ⌝ }
+    ensures { λ r. ⌜ r ≡ openSpan (now (l .entry)) n index ⌝ }
 {
-    let start = word(l, n, 6);
-    let len = word(l, n, 7);
+    let start = word(l, n, OPEN_START);
+    let len = word(l, n, OPEN_LEN);
     PackedSpan {
         index: index,
         start: start,
@@ -84,12 +96,10 @@ fn leaf_span(l: &[u32], n: usize, index: u32) -> PackedSpan
 }
 
 fn close_span(l: &[u32], n: usize, index: u32) -> PackedSpan
-    ensures { λ r. ⌜
-        r ≡ record { index = index; start = wordOf (now (l .entry)) n 11; len = wordOf (now (l .entry)) n 12 }
-        ⌝ }
+    ensures { λ r. ⌜ r ≡ closeSpan (now (l .entry)) n index ⌝ }
 {
-    let start = word(l, n, 11);
-    let len = word(l, n, 12);
+    let start = word(l, n, CLOSE_START);
+    let len = word(l, n, CLOSE_LEN);
     PackedSpan {
         index: index,
         start: start,
@@ -138,23 +148,23 @@ fn raw_of(l: &[u32], n: usize, open_index: u32, close_index: u32, symbol_index: 
     })
 }
 
-// Whether words 8 to 12 are zero, as they are in a leaf.
+// Whether the closing span is zero, as it is in a leaf.
 fn no_close(l: &[u32], n: usize) -> bool
     ensures { λ r. ⌜ r ≡ noClose (wordOf (now (l .entry)) n) ⌝ }
 {
-    if word(l, n, 8) != 0 {
+    if word(l, n, CLOSE_FILE) != 0 {
         return false;
     }
-    if word(l, n, 9) != 0 {
+    if word(l, n, CLOSE_AST) != 0 {
         return false;
     }
-    if word(l, n, 10) != 0 {
+    if word(l, n, CLOSE_CONTEXT) != 0 {
         return false;
     }
-    if word(l, n, 11) != 0 {
+    if word(l, n, CLOSE_START) != 0 {
         return false;
     }
-    if word(l, n, 12) != 0 {
+    if word(l, n, CLOSE_LEN) != 0 {
         return false;
     }
     true
@@ -180,7 +190,7 @@ pub(crate) fn word_fields(l: &[u32], n: usize) -> bool
 
 // The tree of these words with the indices of its open and close part and of its symbol.
 pub fn raw_from_words(
-    words: &[u32; 13],
+    words: &[u32; TREE_WORDS],
     open_index: u32,
     close_index: u32,
     symbol_index: u32,
@@ -197,15 +207,15 @@ pub fn raw_from_words(
 
 // The span whose file is word j.
 fn whole_span(l: &[u32], n: usize, j: usize) -> Span
-    requires { ⌜ j + 4 < 13 ⌝ }
-    ensures { λ r. ⌜ r ≡ spanFrom (wordOf (now (l .entry)) n) j ⌝ }
+    requires { ⌜ j + spanSize ≤ treeSize ⌝ }
+    ensures { λ r. ⌜ r ≡ treeSpan (spanFrom (wordOf (now (l .entry)) n) j) ⌝ }
 {
     Span {
         file: word(l, n, j),
         ast_id: word(l, n, j + 1),
         context: word(l, n, j + 2),
-        start: word(l, n, j + 3),
-        len: word(l, n, j + 4),
+        start: word(l, n, j + PART_WORDS),
+        len: word(l, n, j + PART_WORDS + 1),
     }
 }
 
@@ -275,7 +285,7 @@ fn whole_tree(l: &[u32], n: usize) -> WordsRead
     let sort = word(l, n, 0);
     let first = word(l, n, 1);
     let second = word(l, n, 2);
-    let span = whole_span(l, n, 3);
+    let span = whole_span(l, n, OPEN_AT);
     if sort == 0 {
         return whole_punct(first, second, span);
     }
@@ -285,12 +295,12 @@ fn whole_tree(l: &[u32], n: usize) -> WordsRead
     if sort == 2 {
         return whole_literal(first, second, span);
     }
-    let closing = whole_span(l, n, 8);
+    let closing = whole_span(l, n, CLOSE_AT);
     whole_subtree(first, second, span, closing)
 }
 
 // The tree of these words, or 2 where row 2 refuses them.
-pub fn tree_from_words(words: &[u32; 13]) -> WordsRead
+pub fn tree_from_words(words: &[u32; TREE_WORDS]) -> WordsRead
     ensures { λ r. ⌜ r ≡ wordsAnswer (wordOf (now (words .entry)) 0) ⌝ }
 {
     if !word_fields(words, 0) {
@@ -315,7 +325,7 @@ fn literal_word(kind: LitKind, suffix_len: u32) -> u32
     low_word(counted + 65536 * (suffix_len as u64))
 }
 
-fn thirteen_words(sort: u32, first: u32, second: u32, span: Span, closing: Span) -> [u32; 13]
+fn words_of(sort: u32, first: u32, second: u32, span: Span, closing: Span) -> [u32; TREE_WORDS]
     ensures { λ r. ⌜ r ≡ (sort ∷ first ∷ second ∷ spanList span ++ spanList closing) ⌝ }
 {
     [
@@ -335,7 +345,7 @@ fn thirteen_words(sort: u32, first: u32, second: u32, span: Span, closing: Span)
     ]
 }
 
-fn leaf_words(leaf: Leaf) -> [u32; 13]
+fn leaf_words(leaf: Leaf) -> [u32; TREE_WORDS]
     ensures { λ r. ⌜ r ≡ treeWordsOf (trees.Leaf leaf) ⌝ }
 {
     let none = Span {
@@ -348,29 +358,29 @@ fn leaf_words(leaf: Leaf) -> [u32; 13]
     match leaf {
         Leaf::Punct(p) => {
             let spacing = p.spacing;
-            thirteen_words(0, p.char, spacing_word(spacing), p.span, none)
+            words_of(0, p.char, spacing_word(spacing), p.span, none)
         }
         Leaf::Ident(p) => {
             let is_raw = p.is_raw;
-            thirteen_words(1, p.sym, is_raw_word(is_raw), p.span, none)
+            words_of(1, p.sym, is_raw_word(is_raw), p.span, none)
         }
         Leaf::Literal(p) => {
             let kind = p.kind;
             let second = literal_word(kind, p.suffix_len);
-            thirteen_words(2, p.text_and_suffix, second, p.span, none)
+            words_of(2, p.text_and_suffix, second, p.span, none)
         }
     }
 }
 
-// The 13 list words of a tree.
-pub fn tree_words(tree: TokenTree) -> [u32; 13]
+// The list words of a tree.
+pub fn tree_words(tree: TokenTree) -> [u32; TREE_WORDS]
     ensures { λ r. ⌜ r ≡ treeWordsOf tree ⌝ }
 {
     match tree {
         TokenTree::Leaf(leaf) => leaf_words(leaf),
         TokenTree::Subtree(p) => {
             let kind = p.kind;
-            thirteen_words(3, p.len.0, delimiter_word(kind), p.opening, p.closing)
+            words_of(3, p.len.0, delimiter_word(kind), p.opening, p.closing)
         }
     }
 }

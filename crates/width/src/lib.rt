@@ -13,3 +13,18 @@ pub const OPEN_AT: usize = 3;
 pub const CLOSE_AT: usize = OPEN_AT + SPAN_WORDS;
 
 pub const TREE_WORDS: usize = CLOSE_AT + SPAN_WORDS;
+
+// Where the words of these spans stand that are asked for one by one.
+pub const OPEN_START: usize = OPEN_AT + PART_WORDS;
+
+pub const OPEN_LEN: usize = OPEN_START + 1;
+
+pub const CLOSE_FILE: usize = CLOSE_AT;
+
+pub const CLOSE_AST: usize = CLOSE_AT + 1;
+
+pub const CLOSE_CONTEXT: usize = CLOSE_AT + 2;
+
+pub const CLOSE_START: usize = CLOSE_AT + PART_WORDS;
+
+pub const CLOSE_LEN: usize = CLOSE_START + 1;

@@ -27,6 +27,9 @@ word-requires-4 c κs = search (needs, whole-cases)
 add-word-4 : tie.Need-add-word-4
 add-word-4 c = search (needs, whole-cases)
 
+add-word-5 : tie.Need-add-word-5
+add-word-5 c = search (needs, whole-cases)
+
 word-requires-5 : tie.Need-word-requires-5
 word-requires-5 c κs = search (needs, whole-cases)
 
@@ -45,5 +48,6 @@ whole-span-spec =
     add-word-3
     word-requires-4
     add-word-4
+    add-word-5
     word-requires-5
     returns)
