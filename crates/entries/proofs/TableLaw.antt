@@ -11,6 +11,7 @@ use lib.Dec.{leb}
 use Rattle.format.specs.Test.{if_then_else_}
 use Rattle.format.specs.Word.{put}
 use Rattle.format.specs.Order.{range, before, insert, falling, ordered, AllIn}
+use Rattle.format.specs.Width.{partSize}
 use Rattle.format.specs.MakeTables.{keyCount, keyWords, limitOf, keysOf, timesOf, tableKeys, wordsOf, tableWords, tableCounts}
 use Rattle.format.proofs.Put.{put-length}
 use Rattle.format.proofs.OrderLaw.{all-mono, map-at, falling-bound, ordered-length, ordered-lt}
@@ -38,7 +39,7 @@ unfolding wordsOf placeIn
 words-length l true [] = refl
 words-length l false [] = refl
 words-length l true (x ∷ xs) = ap suc (words-length l true xs)
-words-length l false (x ∷ xs) = let e : length (wordsOf l false xs) ≡ 3 * length xs = words-length l false xs in omega arith
+words-length l false (x ∷ xs) = let e : length (wordsOf l false xs) ≡ partSize * length xs = words-length l false xs in omega arith
 
 map-append : (f : ℕ → ℕ) (xs : List ℕ) (v : ℕ) → map f (xs ++ v ∷ []) ≡ map f xs ++ f v ∷ []
 map-append f [] v = refl

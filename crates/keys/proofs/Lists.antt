@@ -1,11 +1,11 @@
 -- Laws of numbers and lists.
-use Prim.Native.Nat.{ℕ, zero, suc, _≤_, _<_}
-use mathlib.Core.Path.{_≡_, refl, ap, sym}
+use Prim.Native.Nat.{ℕ, zero, suc, _+_, _≤_, _<_}
+use mathlib.Core.Path.{_≡_, refl, ap, sym, _∙_}
 use mathlib.Core.Bool.{Bool, true, false}
-use mathlib.Core.List.{List, [], _∷_}
+use mathlib.Core.List.{List, [], _∷_, _++_}
 use native.Mathlib.Omega.{arith}
 use lib.ListN.{length, getD, set, replicate, length-replicate, List·getD-eq-default}
-use lib.Seq.{set-out}
+use lib.Seq.{set-out, sets}
 use Rattle.format.specs.Test.{if_then_else_}
 pub use Rattle.format.proofs.Kept.{kept}
 
@@ -27,6 +27,13 @@ store-out l i v h = sym (set-out l i v h)
 -- there is no such element
 pub none-at : (l : List ℕ) (i : ℕ) → length l ≤ i → 0 ≡ getD l i 0
 none-at l i h = sym (List·getD-eq-default l 0 h)
+
+-- two runs of stores, one behind the other
+pub sets-append : (xs ys l : List ℕ) (i : ℕ) → sets (sets l i xs) (i + length xs) ys ≡ sets l i (xs ++ ys)
+sets-append [] ys l i = let e : i + 0 ≡ i = omega arith in ap (λ (k : ℕ). sets l k ys) e
+sets-append (x ∷ xs) ys l i =
+    let e : i + suc (length xs) ≡ suc i + length xs = omega arith in
+    ap (λ (k : ℕ). sets (sets (set l i x) (suc i) xs) k ys) e ∙ sets-append xs ys (set l i x) (suc i)
 
 -- ---- arrays of zeros
 

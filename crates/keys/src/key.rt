@@ -1,18 +1,24 @@
 // The keys of a list, by their numbers: their places, what two of them have in common, their hashes.
 use crate::run::set_at;
 use slots::hash::mix;
+use width::OPEN_AT;
+use width::PART_WORDS;
+use width::SPAN_WORDS;
+use width::TREE_WORDS;
 ghost use mathlib.Core.Path.{_≡_};
 ghost use Prim.Native.Nat.{_+_, _*_, _≤_, _<_};
 ghost use lib.ListN.{length, getD};
 ghost use lib.Seq.{sets};
 ghost use lib.Dec.{eqb};
+ghost use Rattle.format.specs.Width.{partSize, treeSize};
+ghost use Rattle.format.specs.Part.{partWords};
 ghost use Rattle.format.specs.MakeTables.{keyCount, liveAt, keyPlace, keyWords, alikeAt, limitOf};
-ghost use Rattle.keys.specs.Keys.{slotOf, classOf, liveIn, placeIn};
+ghost use Rattle.keys.specs.Keys.{partIn, slotOf, classOf, liveIn, placeIn};
 
 pub fn key_count(l: &[u32], symbols: bool) -> usize
     ensures { λ r. ⌜ r ≡ keyCount (now (l .entry)) symbols ⌝ }
 {
-    let k = l.len() / 13;
+    let k = l.len() / TREE_WORDS;
     if k == 0 {
         return 0;
     }
@@ -24,20 +30,20 @@ pub fn key_count(l: &[u32], symbols: bool) -> usize
 
 fn place_of(l: &[u32], symbols: bool, v: usize) -> usize
     requires { ⌜ (v < keyCount (now l) symbols) × (v < 4294967295) ⌝ }
-    ensures { λ r. ⌜ (r ≡ keyPlace symbols v) × (r + 3 ≤ length (now (l .entry))) ⌝ }
+    ensures { λ r. ⌜ (r ≡ keyPlace symbols v) × (r + partSize ≤ length (now (l .entry))) ⌝ }
 {
     if symbols {
-        return 13 * (v + 1) + 1;
+        return TREE_WORDS * (v + 1) + 1;
     }
-    13 * (v / 2 + 1) + (3 + 5 * (v % 2))
+    TREE_WORDS * (v / 2 + 1) + (OPEN_AT + SPAN_WORDS * (v % 2))
 }
 
 // Word 0 of tree n.
 fn sort_of(l: &[u32], n: usize) -> u32
-    requires { ⌜ 13 * n + 13 ≤ length (now l) ⌝ }
-    ensures { λ r. ⌜ r ≡ getD (now (l .entry)) (13 * n) 0 ⌝ }
+    requires { ⌜ treeSize * n + treeSize ≤ length (now l) ⌝ }
+    ensures { λ r. ⌜ r ≡ getD (now (l .entry)) (treeSize * n) 0 ⌝ }
 {
-    l[13 * n]
+    l[TREE_WORDS * n]
 }
 
 // Whether number v is a key.
@@ -138,12 +144,12 @@ pub fn live_in(l: &[u32], symbols: bool, classes: usize, class: usize, v: usize)
 // The word where key k begins in a run of keys.
 pub fn place_in(symbols: bool, k: usize) -> usize
     requires { ⌜ k < 4294967295 ⌝ }
-    ensures { λ r. ⌜ (r ≡ placeIn symbols k) × (r ≤ 3 * k) ⌝ }
+    ensures { λ r. ⌜ (r ≡ placeIn symbols k) × (r ≤ partSize * k) ⌝ }
 {
     if symbols {
         return k;
     }
-    3 * k
+    PART_WORDS * k
 }
 
 // More distinct keys than this are ordered by their counts.
@@ -154,6 +160,16 @@ pub fn limit_of(symbols: bool) -> usize
         return 63;
     }
     15
+}
+
+// Stores the part whose words begin at `from`.
+pub fn put_part(l: &[u32], from: usize, out: &mut [u32], at: usize)
+    requires { ⌜ (from + partSize ≤ length (now l)) × (at ≤ partSize * 4294967295) ⌝ }
+    ensures { λ _. ⌜ now (out .exit) ≡ sets (now (out .entry)) at (partWords (partIn (now (l .entry)) from)) ⌝ }
+{
+    set_at(out, at, l[from]);
+    set_at(out, at + 1, l[from + 1]);
+    set_at(out, at + 2, l[from + 2]);
 }
 
 // Stores key v as the k-th of a run.
@@ -167,7 +183,5 @@ pub fn put_key(l: &[u32], symbols: bool, v: usize, out: &mut [u32], k: usize)
         set_at(out, k, l[a]);
         return;
     }
-    set_at(out, 3 * k, l[a]);
-    set_at(out, 3 * k + 1, l[a + 1]);
-    set_at(out, 3 * k + 2, l[a + 2]);
+    put_part(l, a, out, PART_WORDS * k);
 }

@@ -1,5 +1,5 @@
 -- One law for each return of the functions of src/closes.rt.
-use Prim.Native.Nat.{ℕ, _+_, _*_, _/_, _≤_, _<_}
+use Prim.Native.Nat.{ℕ, _+_, _*_, _≤_, _<_}
 use mathlib.Core.Bool.{Bool, true, false, not}
 use mathlib.Core.Logic.{⊎-elim}
 use mathlib.Core.Path.{_≡_, refl, sym, ap, subst, _∙_}
@@ -8,18 +8,19 @@ use native.Mathlib.Omega.{arith}
 use borrow.Author.Tests.{not-false}
 use lib.ListN.{length, getD, set}
 use lib.Seq.{getD-set-same, getD-set-other}
-use Rattle.format.specs.WordList.{wordOf}
+use Rattle.format.specs.Width.{treeSize}
+use Rattle.format.specs.Part.{Part, samePart}
+use Rattle.format.specs.WordList.{wordOf, listCount}
 use Rattle.format.specs.Writer.{find}
+use Rattle.format.proofs.PartLaw.{same-part}
 use Rattle.format.proofs.Each.{true-false}
-use Rattle.places.specs.Key.{sameKey, keyAt, keyCount, isKey}
+use Rattle.places.specs.Key.{keyAt, keyCount, isKey}
 use Rattle.places.specs.Places.{Placed, AsOpen, Tells, Closed, Copied}
-use Rattle.places.specs.declared.key.Key.{Key}
-use Rattle.places.specs.declared.key.Layout.the-variants.{Part, Open, Close, Name}
+use Rattle.places.specs.declared.key.Layout.the-variants.{Parts, Open, Close, Name}
 use Rattle.slots.proofs.Cases.{eq-or-ne, kept}
-use Rattle.places.proofs.IndexLaw.{same-eq}
 use Rattle.places.proofs.WholeReturns.{open-inside, close-inside}
 
-module _ (l : List ℕ) (n : ℕ) (h : n ≤ length l / 13) where
+module _ (l : List ℕ) (n : ℕ) (h : n ≤ listCount l) where
   pub opens-inside : n ≤ keyCount l Open
   unfolding keyCount
   opens-inside = h
@@ -36,23 +37,23 @@ module _ (l : List ℕ) (n : ℕ) where
   first : (j : ℕ) → j < 1 → n + j ≡ n
   first j h = omega arith
 
-  pub leaf-tells : getD l (13 * n) 0 ≤ 2 → Tells true l n 1
+  pub leaf-tells : getD l (treeSize * n) 0 ≤ 2 → Tells true l n 1
   leaf-tells h = record {
     yes = λ e. record {
       at = λ j u v.
           let p = first j u in
-          let z : 13 * (n + j) + 0 ≡ 13 * n = omega arith in
-          let w : wordOf l (n + j) 0 ≡ getD l (13 * n) 0 = ap (λ (x : ℕ). getD l x 0) z in
+          let z : treeSize * (n + j) + 0 ≡ treeSize * n = omega arith in
+          let w : wordOf l (n + j) 0 ≡ getD l (treeSize * n) 0 = ap (λ (x : ℕ). getD l x 0) z in
           absurd (omega arith);
     };
   }
 
-  pub same-tells : (opening closing : Key) (b : Bool) → opening ≡ keyAt l Open n → closing ≡ keyAt l Close n → b ≡ sameKey closing opening → Tells b l n 1
+  pub same-tells : (opening closing : Part) (b : Bool) → opening ≡ keyAt l Open n → closing ≡ keyAt l Close n → b ≡ samePart closing opening → Tells b l n 1
   same-tells opening closing b eo ec s = record {
     yes = λ e. record {
       at = λ j u v.
           let p = first j u in
-          let q : closing ≡ opening = same-eq closing opening (sym s ∙ e) in
+          let q : closing ≡ opening = same-part closing opening (sym s ∙ e) in
           subst (λ (x : ℕ). keyAt l Close x ≡ keyAt l Open x) (sym p) (sym ec ∙ q ∙ eo);
     };
   }
@@ -105,11 +106,11 @@ copied-all i m a b C h = record { at = λ j u. C .at j (omega arith) }
 pub ruleset copy-cases = (copied-none, copied-more, copied-all, kept)
 
 module _ (parts l : List ℕ) (g from m : ℕ) (closes : List ℕ) where
-  pub closed-placed : Placed parts Part g l Close from m closes → Closed parts g l from m closes
+  pub closed-placed : Placed parts Parts g l Close from m closes → Closed parts g l from m closes
   closed-placed P = record { at = λ j u v. P .done j u }
 
-  pub closed-copied : (b : Bool) → Tells b l from m → b ≡ true → (opens : List ℕ) → Placed parts Part g l Open from m opens → Copied m opens closes → Closed parts g l from m closes
+  pub closed-copied : (b : Bool) → Tells b l from m → b ≡ true → (opens : List ℕ) → Placed parts Parts g l Open from m opens → Copied m opens closes → Closed parts g l from m closes
   closed-copied b T h opens P C =
-      record { at = λ j u v. C .at j u ∙ P .done j u ∙ ap (λ (x : Key). find (isKey (keyAt parts Part) x) g 0) (sym (T .yes h .at j u v)) }
+      record { at = λ j u v. C .at j u ∙ P .done j u ∙ ap (λ (x : Part). find (isKey (keyAt parts Parts) x) g 0) (sym (T .yes h .at j u v)) }
 
 pub ruleset closes-cases = (closed-placed, closed-copied)

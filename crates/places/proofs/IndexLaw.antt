@@ -8,14 +8,14 @@ use native.Mathlib.Omega.{arith}
 use lib.ListN.{length, getD, set, length-set, List·getD-eq-default}
 use lib.Seq.{getD-set-same, getD-set-other}
 use lib.Dec.{eqb}
-use borrow.Author.Tests.{eqb-true, eq-eqb}
+use Rattle.format.specs.Part.{Part}
 use Rattle.format.specs.Writer.{find}
-use Rattle.format.proofs.Each.{and₃, true-false}
+use Rattle.format.proofs.Each.{true-false}
+use Rattle.format.proofs.PartLaw.{same-part, part-same}
 use Rattle.format.proofs.First.{find-at, find-from, find-to, find-first, none-find}
-use Rattle.places.specs.Key.{sameKey, isKey}
+use Rattle.places.specs.Key.{isKey}
 use Rattle.slots.specs.Probe.{probe, occupied}
 use Rattle.places.specs.Index.{slotOf, Leads, Held, Finds, Filled}
-use Rattle.places.specs.declared.key.Key.{Key}
 use Rattle.slots.specs.declared.probe.Looked.{Looked}
 use Rattle.slots.specs.declared.probe.Looked.the-variants.{Found, Empty, Full}
 use Rattle.places.proofs.FindLaw.{find-on, find-here}
@@ -25,24 +25,15 @@ use Rattle.slots.proofs.ProbeLaw.{Nothing, found-empty, found-full, probe-miss,
 
 -- ---- keys that are the same
 
-key-eq : {a b c d e f : ℕ} → a ≡ d → b ≡ e → c ≡ f → _≡_ {A = Key} (record { file = a; «ast_id» = b; context = c }) (record { file = d; «ast_id» = e; context = f })
-key-eq p q r = rw (p, q, r)
-
-pub same-eq : (x y : Key) → sameKey x y ≡ true → x ≡ y
-unfolding sameKey
-same-eq x y h =
-    let q = and₃ (eqb (x .file) (y .file)) (eqb (x .«ast_id») (y .«ast_id»)) (eqb (x .context) (y .context)) h in
-    key-eq (eqb-true _ _ (q .0)) (eqb-true _ _ (q .1)) (eqb-true _ _ (q .2))
-
-pub is-key : (key : ℕ → Key) (k : Key) (i : ℕ) → isKey key k i ≡ true → key i ≡ k
+pub is-key : (key : ℕ → Part) (k : Part) (i : ℕ) → isKey key k i ≡ true → key i ≡ k
 unfolding isKey
-is-key key k i h = same-eq (key i) k h
+is-key key k i h = same-part (key i) k h
 
-pub key-is : (key : ℕ → Key) (k : Key) (i : ℕ) → key i ≡ k → isKey key k i ≡ true
-unfolding isKey sameKey
-key-is key k i e = rw e (simp (eq-eqb (k .file) (k .file) refl, eq-eqb (k .«ast_id») (k .«ast_id») refl, eq-eqb (k .context) (k .context) refl))
+pub key-is : (key : ℕ → Part) (k : Part) (i : ℕ) → key i ≡ k → isKey key k i ≡ true
+unfolding isKey
+key-is key k i e = part-same (key i) k e
 
-pub key-not : (key : ℕ → Key) (k : Key) (i : ℕ) → (key i ≡ k → ⊥) → isKey key k i ≡ false
+pub key-not : (key : ℕ → Part) (k : Part) (i : ℕ) → (key i ≡ k → ⊥) → isKey key k i ≡ false
 key-not key k i n = go (isKey key k i) refl
   where
     go : (b : Bool) → isKey key k i ≡ b → isKey key k i ≡ false
@@ -51,11 +42,11 @@ key-not key k i n = go (isKey key k i) refl
 
 -- ---- one that leads is its key's first place
 
-module _ (key : ℕ → Key) (g : ℕ) where
-  pub lead-first : (k : Key) (e : ℕ) → Leads key g e → key e ≡ k → find (isKey key k) g 0 ≡ e
+module _ (key : ℕ → Part) (g : ℕ) where
+  pub lead-first : (k : Part) (e : ℕ) → Leads key g e → key e ≡ k → find (isKey key k) g 0 ≡ e
   lead-first k e L q =
       let eg = L .to in
-      let f : find (isKey key k) e 0 ≡ e = subst (λ (x : Key). find (isKey key x) e 0 ≡ e) q (L .first) in
+      let f : find (isKey key k) e 0 ≡ e = subst (λ (x : Part). find (isKey key x) e 0 ≡ e) q (L .first) in
       let n : g ≡ e + (g - e) = omega arith in
       let m : 0 + e ≡ e = omega arith in
       let p : 0 < g - e = omega arith in
@@ -67,13 +58,13 @@ module _ (key : ℕ → Key) (g : ℕ) where
   lead-once i j L M e = sym (lead-first (key j) i L e) ∙ lead-first (key j) j M refl
 
   -- and a key's first place leads
-  pub first-leads : (k : Key) (r : ℕ) → find (isKey key k) g 0 ≡ r → r < g → (key r ≡ k) × Leads key g r
+  pub first-leads : (k : Part) (r : ℕ) → find (isKey key k) g 0 ≡ r → r < g → (key r ≡ k) × Leads key g r
   first-leads k r e h =
       let t : isKey key k r ≡ true = subst (λ (j : ℕ). isKey key k j ≡ true) e (find-at (isKey key k) g 0 (omega arith)) in
       let n : find (isKey key k) r 0 ≡ 0 + r = none-find (isKey key k) r 0 (λ m u v. none m u v) in
       let z : 0 + r ≡ r = omega arith in
       let q = is-key key k r t in
-      (q, record { to = h; first = subst (λ (x : Key). find (isKey key x) r 0 ≡ r) (sym q) (n ∙ z) })
+      (q, record { to = h; first = subst (λ (x : Part). find (isKey key x) r 0 ≡ r) (sym q) (n ∙ z) })
     where
       none : (m : ℕ) → 0 ≤ m → m < 0 + r → isKey key k m ≡ false
       none m u v = go (isKey key k m) refl
@@ -84,11 +75,11 @@ module _ (key : ℕ → Key) (g : ℕ) where
 
 -- ---- what a search finds
 
-module _ (key : ℕ → Key) (g : ℕ) (slots : List ℕ) (H : Held key g slots) where
+module _ (key : ℕ → Part) (g : ℕ) (slots : List ℕ) (H : Held key g slots) where
   pub held-below : (s : ℕ) → getD slots s 0 ≤ g
   held-below s = ⊎-elim (λ z. let q = H .entry s z .to in omega arith) (λ z. omega arith) (lt-or-le 0 (getD slots s 0))
 
-  module _ (k : Key) where
+  module _ (k : Part) where
     abbrev looked : Looked
     looked = probe (length slots) slots (isKey key k) (slotOf k (length slots)) (length slots)
 
@@ -102,7 +93,7 @@ module _ (key : ℕ → Key) (g : ℕ) (slots : List ℕ) (H : Held key g slots)
         let m = find-first (isKey key k) g 0 j (key-is key k j e) (omega arith) (omega arith) in
         let r = find (isKey key k) g 0 in
         let q = first-leads key g k r refl (omega arith) in
-        let same : slotOf (key r) (length slots) ≡ slotOf k (length slots) = ap (λ (x : Key). slotOf x (length slots)) (q .0) in
+        let same : slotOf (key r) (length slots) ≡ slotOf k (length slots) = ap (λ (x : Part). slotOf x (length slots)) (q .0) in
         let there = subst (λ (s : ℕ). probe (length slots) slots (λ e. eqb e r) s (length slots) ≡ Found r) same (H .reach r (q .1)) in
         true-false (isKey key k r) (key-is key k r (q .0)) (probe-miss (length slots) slots (isKey key k) (slotOf k (length slots)) (length slots) r there h)
 
@@ -175,7 +166,7 @@ module _ (key : ℕ → Key) (g : ℕ) (slots : List ℕ) (H : Held key g slots)
       stored i l e = ap (λ (j : ℕ). getD (set slots s (suc g)) j 0) e ∙ getD-set-same slots s (suc g) 0 l
 
 -- nothing is entered yet
-pub held-empty : (key : ℕ → Key) (slots : List ℕ) → Filled 0 (length slots) slots → Held key 0 slots
+pub held-empty : (key : ℕ → Part) (slots : List ℕ) → Filled 0 (length slots) slots → Held key 0 slots
 held-empty key slots Z = record {
   entry = λ s p. let z = zero-at s in absurd (omega arith);
   reach = λ r L. let b = L .to in absurd (omega arith);

@@ -7,10 +7,10 @@ use mathlib.Core.List.{List}
 use native.Mathlib.Omega.{arith}
 use lib.ListN.{length, getD, set, length-set}
 use lib.Seq.{getD-set-same, getD-set-other}
-use Rattle.places.specs.Key.{sameKey, keyAt, keyCount, shift, isKey}
+use Rattle.format.specs.Part.{Part, samePart}
+use Rattle.places.specs.Key.{keyAt, keyCount, shift, isKey}
 use Rattle.slots.specs.Probe.{nextSlot, probe}
 use Rattle.places.specs.Index.{slotOf, probeFor, Held, Loaded, Within, Finds, Filled}
-use Rattle.places.specs.declared.key.Key.{Key}
 use Rattle.places.specs.declared.key.Layout.{Layout}
 use Rattle.slots.specs.declared.probe.Looked.{Looked}
 use Rattle.slots.specs.declared.probe.Looked.the-variants.{Found, Empty, Full}
@@ -24,11 +24,11 @@ use Rattle.places.proofs.IndexLaw.{held-below, held-finds, held-room, e
 pub within-key : (t : List ℕ) (w : Layout) (base : ℕ) (slots : List ℕ) (s x : ℕ) → Within t w base slots → x ≡ getD slots s 0 → (x ≡ 0 → ⊥) → base + (x - 1) < keyCount t w
 within-key t w base slots s x W e z = let h = W .at s in omega arith
 
-module _ (key : ℕ → Key) (k : Key) (N : ℕ) (t : List ℕ) (start s left : ℕ) (inv : probe N t (isKey key k) start N ≡ probe N t (isKey key k) s left) where
-  module _ (h : 0 < left) (e : ℕ) (q : e ≡ getD t s 0) (z : e ≡ 0 → ⊥) (there : Key) (w : there ≡ key (e - 1)) (b : Bool) (a : b ≡ sameKey there k) where
+module _ (key : ℕ → Part) (k : Part) (N : ℕ) (t : List ℕ) (start s left : ℕ) (inv : probe N t (isKey key k) start N ≡ probe N t (isKey key k) s left) where
+  module _ (h : 0 < left) (e : ℕ) (q : e ≡ getD t s 0) (z : e ≡ 0 → ⊥) (there : Part) (w : there ≡ key (e - 1)) (b : Bool) (a : b ≡ samePart there k) where
     here : b ≡ isKey key k (e - 1)
     unfolding isKey
-    here = a ∙ ap (λ (x : Key). sameKey x k) w
+    here = a ∙ ap (λ (x : Part). samePart x k) w
 
     pub key-found : b ≡ true → Found (e - 1) ≡ probe N t (isKey key k) start N
     key-found y = look-found N t (isKey key k) start s left inv h e q z b here y
@@ -40,7 +40,7 @@ pub ruleset look-cases = (within-key, look-full, look-empty, key-found, key-on)
 
 -- ---- a key
 
-module _ (key : ℕ → Key) (k : Key) (slots : List ℕ) (start : ℕ) (es : start ≡ slotOf k (length slots)) (q : Looked) (eq : q ≡ probeFor key k slots start (length slots)) where
+module _ (key : ℕ → Part) (k : Part) (slots : List ℕ) (start : ℕ) (es : start ≡ slotOf k (length slots)) (q : Looked) (eq : q ≡ probeFor key k slots start (length slots)) where
   looked : (r : Looked) → q ≡ r → probe (length slots) slots (isKey key k) (slotOf k (length slots)) (length slots) ≡ r
   looked r e = ap (λ (s : ℕ). probe (length slots) slots (isKey key k) s (length slots)) (sym es) ∙ sym eq ∙ e
 
@@ -54,7 +54,7 @@ module _ (t : List ℕ) (w : Layout) (base g : ℕ) (slots : List ℕ) (L : Load
   pub loaded-most : length slots ≤ 1048576
   loaded-most = L .most
 
-  pub loaded-finds : (k : Key) (start : ℕ) → start ≡ slotOf k (length slots) → (q : Looked) → q ≡ probeFor (shift (keyAt t w) base) k slots start (length slots)
+  pub loaded-finds : (k : Part) (start : ℕ) → start ≡ slotOf k (length slots) → (q : Looked) → q ≡ probeFor (shift (keyAt t w) base) k slots start (length slots)
       → Finds (shift (keyAt t w) base) g k q
   loaded-finds k start es q eq =
       subst (λ (r : Looked). Finds (shift (keyAt t w) base) g k r) (looked (shift (keyAt t w) base) k slots start es q eq q refl) (held-finds (shift (keyAt t w) base) g slots (L .held) k)
@@ -66,13 +66,13 @@ pub ruleset find-cases = (loaded-within, loaded-some, loaded-most, loaded-finds)
 pub held-within : (t : List ℕ) (w : Layout) (base g : ℕ) (slots : List ℕ) → Held (shift (keyAt t w) base) g slots → base + g < keyCount t w → Within t w base slots
 held-within t w base g slots H h = record { at = λ s. let b = held-below (shift (keyAt t w) base) g slots H s in omega arith }
 
-module _ (key : ℕ → Key) (g : ℕ) (slots : List ℕ) (H : Held key g slots) (k : Key) (ek : k ≡ key g) (start : ℕ) (es : start ≡ slotOf k (length slots)) (q : Looked)
+module _ (key : ℕ → Part) (g : ℕ) (slots : List ℕ) (H : Held key g slots) (k : Part) (ek : k ≡ key g) (start : ℕ) (es : start ≡ slotOf k (length slots)) (q : Looked)
     (eq : q ≡ probeFor key k slots start (length slots)) where
   looked-g : (r : Looked) → q ≡ r → probe (length slots) slots (isKey key (key g)) (slotOf (key g) (length slots)) (length slots) ≡ r
-  looked-g r e = subst (λ (x : Key). probe (length slots) slots (isKey key x) (slotOf x (length slots)) (length slots) ≡ r) ek (looked key k slots start es q eq r e)
+  looked-g r e = subst (λ (x : Part). probe (length slots) slots (isKey key x) (slotOf x (length slots)) (length slots) ≡ r) ek (looked key k slots start es q eq r e)
 
   below-g : start < length slots → slotOf (key g) (length slots) < length slots
-  below-g h = subst (λ (x : Key). slotOf x (length slots) < length slots) ek (subst (λ (x : ℕ). x < length slots) es h)
+  below-g h = subst (λ (x : Part). slotOf x (length slots) < length slots) ek (subst (λ (x : ℕ). x < length slots) es h)
 
   pub enter-slot : (s : ℕ) → q ≡ Empty s → start < length slots → s < length slots
   enter-slot s h l = probe-empty (length slots) slots (isKey key k) start (length slots) s l (sym eq ∙ h) .1
@@ -93,7 +93,7 @@ pub ruleset enter-cases = (held-within, enter-slot, enter-stored, enter-old, ent
 
 -- ---- all of them
 
-pub held-all : (key : ℕ → Key) (g i : ℕ) (slots : List ℕ) → Held key i slots → i ≤ g → g ≤ i → Held key g slots
+pub held-all : (key : ℕ → Part) (g i : ℕ) (slots : List ℕ) → Held key i slots → i ≤ g → g ≤ i → Held key g slots
 held-all key g i slots H a b = let e : i ≡ g = omega arith in subst (λ (j : ℕ). Held key j slots) e H
 
 pub ruleset enter-all-cases = (held-empty, held-all, kept)

@@ -1,5 +1,5 @@
 -- One law for each return of the functions of src/resolve.rt.
-use Prim.Native.Nat.{ℕ, _+_, _*_, _-_, _/_, _≤_, _<_}
+use Prim.Native.Nat.{ℕ, _+_, _-_, _/_, _≤_, _<_}
 use mathlib.Core.Bool.{Bool, true, false, _&&_}
 use mathlib.Core.Path.{_≡_, refl, sym, ap, subst, _∙_}
 use mathlib.Core.List.{List}
@@ -7,15 +7,16 @@ use native.Mathlib.Omega.{arith}
 use borrow.Author.Tests.{leb-true, le-leb, lt-leb}
 use lib.Dec.{leb}
 use lib.ListN.{length, getD}
+use Rattle.format.specs.Width.{partSize}
+use Rattle.format.specs.Part.{Part}
 use Rattle.format.specs.WordList.{wordOf, rawFrom, listCount}
 use Rattle.format.specs.Writer.{find, rawOf}
 use Rattle.format.proofs.Each.{and-left, and-right}
 use Rattle.places.specs.Key.{keyAt, keyCount, isKey}
 use Rattle.places.specs.Index.{portion, Loaded, Ready}
 use Rattle.places.specs.Places.{Resolved, Placed, Closed, Streamed, Roomy, Indexed, Whole, Least}
-use Rattle.places.specs.declared.key.Key.{Key}
 use Rattle.places.specs.declared.key.Layout.{Layout}
-use Rattle.places.specs.declared.key.Layout.the-variants.{Part, Symbol, Open, Close, Name}
+use Rattle.places.specs.declared.key.Layout.the-variants.{Parts, Symbols, Open, Close, Name}
 use Rattle.places.proofs.ClosesReturns.{opens-inside, closes-inside, names-inside}
 use Rattle.places.proofs.TreeLaw.{tree-raw}
 
@@ -41,17 +42,17 @@ pub ruleset build-one-cases = (ready-large, ready-loaded, none-before, portion-f
 
 -- ---- sizes
 
-pub symbols-inside : (symbols : List ℕ) → length symbols ≤ keyCount symbols Symbol
+pub symbols-inside : (symbols : List ℕ) → length symbols ≤ keyCount symbols Symbols
 unfolding keyCount
 symbols-inside symbols = omega arith
 
 module _ (parts symbols : List ℕ) where
-  pub parts-inside : (p : ℕ) → p ≡ length parts / 3 - 2 → p ≤ keyCount parts Part
+  pub parts-inside : (p : ℕ) → p ≡ length parts / partSize - 2 → p ≤ keyCount parts Parts
   unfolding keyCount
   parts-inside p e = omega arith
 
   module _ (a b : ℕ) (R : Roomy (length parts) (length symbols) a b) where
-    pub parts-most : (p : ℕ) → p ≡ length parts / 3 - 2 → p ≤ 2097152
+    pub parts-most : (p : ℕ) → p ≡ length parts / partSize - 2 → p ≤ 2097152
     parts-most p e = let h = R .ofParts in omega arith
 
     pub symbols-most : length symbols ≤ 1048576
@@ -75,8 +76,8 @@ module _ (parts symbols : List ℕ) where
     pub roomy-kept : (c d : ℕ) → c ≡ a → d ≡ b → Roomy (length parts) (length symbols) c d
     roomy-kept c d e f = rw (e, f) R
 
-  pub indexed : (p : ℕ) → p ≡ length parts / 3 - 2 → (ps ss : List ℕ) → Ready parts Part p ps → Ready symbols Symbol (length symbols) ss → Indexed parts symbols ps ss
-  indexed p e ps ss P S = record { ofParts = subst (λ (n : ℕ). Ready parts Part n ps) e P; ofSymbols = S }
+  pub indexed : (p : ℕ) → p ≡ length parts / partSize - 2 → (ps ss : List ℕ) → Ready parts Parts p ps → Ready symbols Symbols (length symbols) ss → Indexed parts symbols ps ss
+  indexed p e ps ss P S = record { ofParts = subst (λ (n : ℕ). Ready parts Parts n ps) e P; ofSymbols = S }
 
 pub ruleset size-cases = (parts-inside, symbols-inside, parts-most, symbols-most, symbols-below, slots-some, slots-most, other-some, other-most, roomy-kept)
 
@@ -100,20 +101,20 @@ module _ (n a m b most : ℕ) (ea : most ≡ portion a) where
 
 pub ruleset are-whole-cases = (parts-large, symbols-large, both-whole)
 
-pub indexed-whole : (parts symbols ps ss : List ℕ) (g : ℕ) (b : Bool) → g ≡ length parts / 3 - 2 → Roomy (length parts) (length symbols) (length ps) (length ss) → Indexed parts symbols ps ss
+pub indexed-whole : (parts symbols ps ss : List ℕ) (g : ℕ) (b : Bool) → g ≡ length parts / partSize - 2 → Roomy (length parts) (length symbols) (length ps) (length ss) → Indexed parts symbols ps ss
     → b ≡ (leb g (portion (length ps)) && leb (length symbols) (portion (length ss))) → b ≡ true → Whole parts symbols ps ss g
 indexed-whole parts symbols ps ss g b e R I w h =
     let x = leb g (portion (length ps)) in
     let y = leb (length symbols) (portion (length ss)) in
     let p : g ≤ portion (length ps) = leb-true _ _ (and-left x y (sym w ∙ h)) in
     let s : length symbols ≤ portion (length ss) = leb-true _ _ (and-right x y (sym w ∙ h)) in
-    let r : Ready parts Part g ps = subst (λ (n : ℕ). Ready parts Part n ps) (sym e) (I .ofParts) in
+    let r : Ready parts Parts g ps = subst (λ (n : ℕ). Ready parts Parts n ps) (sym e) (I .ofParts) in
     let m = parts-most parts symbols (length ps) (length ss) R g e in
     let n = symbols-below parts symbols (length ps) (length ss) R in
     record {
       count = e;
-      ofParts = ready-whole parts Part g ps r p (parts-inside parts symbols g e) m (R .somePart) (R .mostPart);
-      ofSymbols = ready-whole symbols Symbol (length symbols) ss (I .ofSymbols) s (symbols-inside symbols) n (R .someSymbol) (R .mostSymbol);
+      ofParts = ready-whole parts Parts g ps r p (parts-inside parts symbols g e) m (R .somePart) (R .mostPart);
+      ofSymbols = ready-whole symbols Symbols (length symbols) ss (I .ofSymbols) s (symbols-inside symbols) n (R .someSymbol) (R .mostSymbol);
     }
 
 -- ---- tables that are read through
@@ -126,17 +127,17 @@ least-second a b = record { at = λ j h k. k }
 
 pub ruleset least-cases = (least-first, least-second)
 
-pub streamed : (parts symbols l : List ℕ) (g from m : ℕ) (opens closes syms : List ℕ) → Placed parts Part g l Open from m opens → Closed parts g l from m closes
-    → Placed symbols Symbol (length symbols) l Name from m syms → Streamed parts symbols l g from m opens closes syms
+pub streamed : (parts symbols l : List ℕ) (g from m : ℕ) (opens closes syms : List ℕ) → Placed parts Parts g l Open from m opens → Closed parts g l from m closes
+    → Placed symbols Symbols (length symbols) l Name from m syms → Streamed parts symbols l g from m opens closes syms
 streamed parts symbols l g from m opens closes syms O C S = record { opening = O; closing = C; symbol = S }
 
 pub ruleset stream-cases = (size-cases, opens-inside, closes-inside, names-inside, streamed)
 
 module _ (parts symbols l : List ℕ) (from : ℕ) (opens closes syms : List ℕ) where
-  pub stream-none : (m : ℕ) → length l / 13 ≤ from → Resolved parts symbols l from m opens closes syms
+  pub stream-none : (m : ℕ) → listCount l ≤ from → Resolved parts symbols l from m opens closes syms
   stream-none m h = record { at = λ j k q. absurd (omega arith) }
 
-  pub stream-resolved : (g m r : ℕ) → g ≡ length parts / 3 - 2 → 1 ≤ from → from < length l / 13 → Least (length l / 13 - from) m r → Streamed parts symbols l g from r opens closes syms
+  pub stream-resolved : (g m r : ℕ) → g ≡ length parts / partSize - 2 → 1 ≤ from → from < listCount l → Least (listCount l - from) m r → Streamed parts symbols l g from r opens closes syms
       → Resolved parts symbols l from m opens closes syms
   stream-resolved g m r e h k L S = record {
     at = λ j u q.
@@ -147,8 +148,8 @@ module _ (parts symbols l : List ℕ) (from : ℕ) (opens closes syms : List ℕ
         (λ w. S .symbol .done j v);
   }
     where
-      to : (x : Key) → find (isKey (keyAt parts Part) x) g 0 ≡ find (isKey (keyAt parts Part) x) (length parts / 3 - 2) 0
-      to x = ap (λ (n : ℕ). find (isKey (keyAt parts Part) x) n 0) e
+      to : (x : Part) → find (isKey (keyAt parts Parts) x) g 0 ≡ find (isKey (keyAt parts Parts) x) (length parts / partSize - 2) 0
+      to x = ap (λ (n : ℕ). find (isKey (keyAt parts Parts) x) n 0) e
 
 pub ruleset resolve-stream-cases = (size-cases, stream-none, stream-resolved)
 

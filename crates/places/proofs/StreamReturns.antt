@@ -9,12 +9,12 @@ use borrow.Author.Tests.{eq-eqb, ne-eqb, eqb-true, eqb-false}
 use lib.Dec.{eqb}
 use lib.ListN.{length, getD, set, length-set}
 use lib.Seq.{getD-set-same, getD-set-other}
+use Rattle.format.specs.Part.{Part}
 use Rattle.format.specs.Test.{if_then_else_}
 use Rattle.format.specs.Writer.{find}
 use Rattle.places.specs.Key.{keyAt, isKey, shift}
 use Rattle.places.specs.Index.{Leads, Finds, Filled}
 use Rattle.places.specs.Places.{Placed, Midway, soFar}
-use Rattle.places.specs.declared.key.Key.{Key}
 use Rattle.places.specs.declared.key.Layout.{Layout}
 use Rattle.slots.specs.declared.probe.Looked.{Looked}
 use Rattle.slots.specs.declared.probe.Looked.the-variants.{Found, Empty, Full}
@@ -36,24 +36,24 @@ pub ruleset put-first-cases = (put-not, put-now)
 
 -- ---- while keys are looked for
 
-pub shift-at : (key : ℕ → Key) (base i : ℕ) → shift key base i ≡ key (base + i)
+pub shift-at : (key : ℕ → Part) (base i : ℕ) → shift key base i ≡ key (base + i)
 unfolding shift
 shift-at key base i = refl
 
 module _ (t : List ℕ) (table : Layout) (n : ℕ) (l : List ℕ) (keys : Layout) (from base a m : ℕ) (out : List ℕ) where
-  abbrev tree : ℕ → Key
+  abbrev tree : ℕ → Part
   tree = shift (keyAt l keys) base
 
   abbrev test : ℕ → ℕ → Bool
   test j = isKey (keyAt t table) (tree j)
 
-  module _ (d e : ℕ) (M : Midway t table n l keys from base a m d e out) (k : Key) (q : Looked) (F : Finds (shift (keyAt l keys) base) m k q) where
+  module _ (d e : ℕ) (M : Midway t table n l keys from base a m d e out) (k : Part) (q : Looked) (F : Finds (shift (keyAt l keys) base) m k q) where
     pub found-room : (j : ℕ) → q ≡ Found j → a + j < length out
     found-room j h = let r = M .room in let u = F .found j h .0 .to in omega arith
 
   -- ---- entry e
 
-  module _ (e : ℕ) (M : Midway t table n l keys from base a m a e out) (k : Key) (ek : k ≡ keyAt t table e) (q : Looked) (F : Finds (shift (keyAt l keys) base) m k q) where
+  module _ (e : ℕ) (M : Midway t table n l keys from base a m a e out) (k : Part) (ek : k ≡ keyAt t table e) (q : Looked) (F : Finds (shift (keyAt l keys) base) m k q) where
     -- it is not key j
     other : (j : ℕ) → (tree j ≡ k → ⊥) → soFar (test j) n (e + 1) ≡ soFar (test j) n e
     other j h = so-far-not (test j) n e (key-not (keyAt t table) (tree j) e (λ p. h (sym p ∙ sym ek)))
@@ -141,7 +141,7 @@ module _ (t : List ℕ) (table : Layout) (n : ℕ) (l : List ℕ) (keys : Layout
 
   -- ---- key a + i
 
-  module _ (i : ℕ) (hi : i < m) (M : Midway t table n l keys from base a m (a + i) n out) (k : Key) (ek : k ≡ shift (keyAt l keys) base i) (q : Looked) (F : Finds (shift (keyAt l keys) base) m k q) where
+  module _ (i : ℕ) (hi : i < m) (M : Midway t table n l keys from base a m (a + i) n out) (k : Part) (ek : k ≡ shift (keyAt l keys) base i) (q : Looked) (F : Finds (shift (keyAt l keys) base) m k q) where
     pub spread-empty : (s : ℕ) → q ≡ Empty s → Midway t table n l keys from base a m (a + (i + 1)) n out
     spread-empty s h = absurd (F .none (λ j p. found-empty j s (sym p ∙ h)) i hi (sym ek))
 
@@ -153,7 +153,7 @@ module _ (t : List ℕ) (table : Layout) (n : ℕ) (l : List ℕ) (keys : Layout
       begin = M .begin;
       room = rw (length-set out (a + i) v) (M .room);
       done = λ x u. ⊎-elim
-          (λ p. subst (λ (y : ℕ). getD (set out (a + i) v) y 0 ≡ find (isKey (keyAt t table) (keyAt l keys (from + y))) n 0) (sym p) (stored ∙ ap (λ (z : Key). find (isKey (keyAt t table) z) n 0) absolute))
+          (λ p. subst (λ (y : ℕ). getD (set out (a + i) v) y 0 ≡ find (isKey (keyAt t table) (keyAt l keys (from + y))) n 0) (sym p) (stored ∙ ap (λ (z : Part). find (isKey (keyAt t table) z) n 0) absolute))
           (λ p. getD-set-other out (a + i) x v 0 p ∙ M .done x (below x u p))
           (eq-or-ne x (a + i));
       todo = λ x u w. getD-set-other out (a + i) x v 0 (λ p. absurd (high x u p)) ∙ M .todo x u (rw (length-set out (a + i) v) at w);
@@ -168,7 +168,7 @@ module _ (t : List ℕ) (table : Layout) (n : ℕ) (l : List ℕ) (keys : Layout
 
         -- the value is key i's place, since the one that leads is alike
         value : v ≡ find (test i) n 0
-        value = M .leads j (F .found j h .0) ∙ so-far-all (test j) n ∙ ap (λ (z : Key). find (isKey (keyAt t table) z) n 0) (F .found j h .1 ∙ ek)
+        value = M .leads j (F .found j h .0) ∙ so-far-all (test j) n ∙ ap (λ (z : Part). find (isKey (keyAt t table) z) n 0) (F .found j h .1 ∙ ek)
 
         stored : getD (set out (a + i) v) (a + i) 0 ≡ find (test i) n 0
         stored = getD-set-same out (a + i) v 0 (let r = M .room in omega arith) ∙ value

@@ -3,6 +3,7 @@ use Prim.Native.Nat.{ℕ, _+_, _/_, _≤_, _<_}
 use mathlib.Core.Path.{_≡_}
 use mathlib.Core.List.{List}
 use lib.ListN.{length, getD}
+use Rattle.format.specs.Width.{partSize}
 use Rattle.format.specs.WordList.{wordOf, rawFrom, listCount}
 use Rattle.format.specs.Writer.{rawOf}
 use Rattle.places.specs.Places.{Resolved, Roomy}
@@ -17,6 +18,6 @@ pub resolved-tree : (parts symbols l : List ℕ) (from m : ℕ) (opens closes sy
     → y ≡ getD syms j 0 → n ≡ from + j → j < m → n < listCount l → rawFrom o c y (wordOf l n) ≡ rawOf parts symbols l n
 resolved-tree parts symbols l from m opens closes syms R j n o c y eo ec ey en h k = rw (eo, ec, ey, en) (R .at j h (rw en at k))
 
-pub roomy : (parts symbols partSlots symbolSlots : ℕ) → parts / 3 ≤ 2097152 → symbols ≤ 1048576 → 0 < partSlots → 0 < symbolSlots → partSlots ≤ 1048576 → symbolSlots ≤ 1048576
+pub roomy : (parts symbols partSlots symbolSlots : ℕ) → parts / partSize ≤ 2097152 → symbols ≤ 1048576 → 0 < partSlots → 0 < symbolSlots → partSlots ≤ 1048576 → symbolSlots ≤ 1048576
     → Roomy parts symbols partSlots symbolSlots
 roomy parts symbols partSlots symbolSlots p y a b c d = record { ofParts = p; ofSymbols = y; somePart = a; someSymbol = b; mostPart = c; mostSymbol = d }

@@ -7,36 +7,38 @@ use mathlib.Core.List.{List}
 use native.Mathlib.Omega.{arith}
 use lib.ListN.{length, getD, set, List·getD-eq-default}
 use lib.Seq.{getD-set-same, getD-set-other}
+use Rattle.format.specs.Width.{partSize, treeSize}
+use Rattle.format.specs.Part.{Part, samePart}
 use Rattle.format.specs.WordList.{wordOf, rawFrom, listCount}
 use Rattle.format.specs.Writer.{find, rawOf}
 use Rattle.format.proofs.Each.{true-false}
+use Rattle.format.proofs.PartLaw.{same-part}
 use Rattle.format.proofs.First.{none-find}
-use Rattle.places.specs.Key.{sameKey, keyAt, keyCount, shift, isKey, named}
+use Rattle.places.specs.Key.{keyAt, keyCount, shift, isKey, named}
 use Rattle.places.specs.Index.{Loaded, Finds}
 use Rattle.places.specs.Places.{Resolved, Whole}
-use Rattle.places.specs.declared.key.Key.{Key}
 use Rattle.places.specs.declared.key.Layout.{Layout}
-use Rattle.places.specs.declared.key.Layout.the-variants.{Part, Symbol, Open, Close, Name}
+use Rattle.places.specs.declared.key.Layout.the-variants.{Parts, Symbols, Open, Close, Name}
 use Rattle.slots.specs.declared.probe.Looked.{Looked}
 use Rattle.slots.specs.declared.probe.Looked.the-variants.{Found, Empty, Full}
 use Rattle.places.specs.declared.whole.Indices.{Indices}
 use Rattle.slots.proofs.Cases.{eq-or-ne, kept}
 use Rattle.places.proofs.FindLaw.{find-same}
 use Rattle.slots.proofs.ProbeLaw.{found-empty, found-full}
-use Rattle.places.proofs.IndexLaw.{same-eq, key-not, lead-first}
+use Rattle.places.proofs.IndexLaw.{key-not, lead-first}
 use Rattle.places.proofs.TreeLaw.{tree-raw}
 
 -- ---- a key's place
 
-shift-none : (key : ℕ → Key) (k : Key) (i : ℕ) → isKey (shift key 0) k i ≡ isKey key k i
+shift-none : (key : ℕ → Part) (k : Part) (i : ℕ) → isKey (shift key 0) k i ≡ isKey key k i
 unfolding isKey shift
-shift-none key k i = let z : 0 + i ≡ i = omega arith in rw z
+shift-none key k i = let z : 0 + i ≡ i = omega arith in ap (λ (x : ℕ). samePart (key x) k) z
 
 module _ (t : List ℕ) (w : Layout) (g : ℕ) (slots : List ℕ) (L : Loaded t w 0 g slots) where
   pub count-narrow : g < 4294967296
   count-narrow = let h = L .bound in omega arith
 
-  module _ (k : Key) (q : Looked) (F : Finds (shift (keyAt t w) 0) g k q) where
+  module _ (k : Part) (q : Looked) (F : Finds (shift (keyAt t w) 0) g k q) where
     pub found-narrow : (j : ℕ) → q ≡ Found j → j < 4294967296
     found-narrow j h = let b = L .bound in let u = F .found j h .0 .to in omega arith
 
@@ -59,26 +61,26 @@ module _ (t : List ℕ) (w : Layout) (g : ℕ) (slots : List ℕ) (L : Loaded t 
 
 pub ruleset place-in-cases = (count-narrow, found-narrow, place-found, place-empty, place-full)
 
-module _ (key : ℕ → Key) (g : ℕ) where
-  pub place-of : (k k′ : Key) (r : ℕ) → k ≡ k′ → r ≡ find (isKey key k) g 0 → r ≡ find (isKey key k′) g 0
-  place-of k k′ r e q = q ∙ ap (λ (x : Key). find (isKey key x) g 0) e
+module _ (key : ℕ → Part) (g : ℕ) where
+  pub place-of : (k k′ : Part) (r : ℕ) → k ≡ k′ → r ≡ find (isKey key k) g 0 → r ≡ find (isKey key k′) g 0
+  place-of k k′ r e q = q ∙ ap (λ (x : Part). find (isKey key x) g 0) e
 
-  pub close-other : (k k′ : Key) (x r : ℕ) → (2 < x → k ≡ k′) → r ≡ find (isKey key k) g 0 → 2 < x → r ≡ find (isKey key k′) g 0
+  pub close-other : (k k′ : Part) (x r : ℕ) → (2 < x → k ≡ k′) → r ≡ find (isKey key k) g 0 → 2 < x → r ≡ find (isKey key k′) g 0
   close-other k k′ x r f q h = place-of k k′ r (f h) q
 
-  pub close-same : (opening closing o′ c′ : Key) (b : Bool) (x o : ℕ) → opening ≡ o′ → (2 < x → closing ≡ c′) → b ≡ sameKey closing opening → b ≡ true
+  pub close-same : (opening closing o′ c′ : Part) (b : Bool) (x o : ℕ) → opening ≡ o′ → (2 < x → closing ≡ c′) → b ≡ samePart closing opening → b ≡ true
       → o ≡ find (isKey key o′) g 0 → 2 < x → o ≡ find (isKey key c′) g 0
   close-same opening closing o′ c′ b x o eo ec s t q h =
-      let e : closing ≡ opening = same-eq closing opening (sym s ∙ t) in
-      q ∙ ap (λ (k : Key). find (isKey key k) g 0) (sym eo ∙ sym e ∙ ec h)
+      let e : closing ≡ opening = same-part closing opening (sym s ∙ t) in
+      q ∙ ap (λ (k : Part). find (isKey key k) g 0) (sym eo ∙ sym e ∙ ec h)
 
-  pub name-other : (k k′ : Key) (x r : ℕ) → (named x ≡ true → k ≡ k′) → r ≡ find (isKey key k) g 0 → named x ≡ true → r ≡ find (isKey key k′) g 0
+  pub name-other : (k k′ : Part) (x r : ℕ) → (named x ≡ true → k ≡ k′) → r ≡ find (isKey key k) g 0 → named x ≡ true → r ≡ find (isKey key k′) g 0
   name-other k k′ x r f q h = place-of k k′ r (f h) q
 
 pub ruleset close-place-cases = (place-of, close-other, close-same, name-other)
 
 -- the key of a tree that has it, any of one that has not
-module _ (l : List ℕ) (n x : ℕ) (k : Key) where
+module _ (l : List ℕ) (n x : ℕ) (k : Part) where
   pub pick-open : x ≤ 2 → 2 < x → k ≡ keyAt l Close n
   pick-open h g = absurd (omega arith)
 
@@ -98,7 +100,7 @@ pub ruleset pick-cases = (pick-open, pick-close, pick-name, pick-other, first-no
 
 -- ---- a tree's indices
 
-module _ (l : List ℕ) (n : ℕ) (h : n < length l / 13) where
+module _ (l : List ℕ) (n : ℕ) (h : n < listCount l) where
   pub open-inside : n < keyCount l Open
   unfolding keyCount
   open-inside = h
@@ -112,28 +114,28 @@ module _ (l : List ℕ) (n : ℕ) (h : n < length l / 13) where
   name-inside = h
 
 module _ (parts symbols l : List ℕ) (n g : ℕ) (ps ss : List ℕ) (W : Whole parts symbols ps ss g) where
-  pub whole-parts : Loaded parts Part 0 g ps
+  pub whole-parts : Loaded parts Parts 0 g ps
   whole-parts = W .ofParts
 
-  pub whole-symbols : Loaded symbols Symbol 0 (length symbols) ss
+  pub whole-symbols : Loaded symbols Symbols 0 (length symbols) ss
   whole-symbols = W .ofSymbols
 
-  module _ (hn : 1 ≤ n) (k : Key) (ek : k ≡ keyAt l Open n) (o : ℕ) (eo : o ≡ find (isKey (keyAt parts Part) k) g 0) where
-    to : (x : Key) → find (isKey (keyAt parts Part) x) g 0 ≡ find (isKey (keyAt parts Part) x) (length parts / 3 - 2) 0
-    to x = ap (λ (j : ℕ). find (isKey (keyAt parts Part) x) j 0) (W .count)
+  module _ (hn : 1 ≤ n) (k : Part) (ek : k ≡ keyAt l Open n) (o : ℕ) (eo : o ≡ find (isKey (keyAt parts Parts) k) g 0) where
+    to : (x : Part) → find (isKey (keyAt parts Parts) x) g 0 ≡ find (isKey (keyAt parts Parts) x) (length parts / partSize - 2) 0
+    to x = ap (λ (j : ℕ). find (isKey (keyAt parts Parts) x) j 0) (W .count)
 
-    opened : o ≡ find (isKey (keyAt parts Part) (keyAt l Open n)) (length parts / 3 - 2) 0
-    opened = place-of (keyAt parts Part) g k (keyAt l Open n) o ek eo ∙ to (keyAt l Open n)
+    opened : o ≡ find (isKey (keyAt parts Parts) (keyAt l Open n)) (length parts / partSize - 2) 0
+    opened = place-of (keyAt parts Parts) g k (keyAt l Open n) o ek eo ∙ to (keyAt l Open n)
 
     -- its sort as the code has read it
-    head : wordOf l n 0 ≡ getD l (13 * n) 0
-    head = let z : 13 * n + 0 ≡ 13 * n = omega arith in ap (λ (j : ℕ). getD l j 0) z
+    head : wordOf l n 0 ≡ getD l (treeSize * n) 0
+    head = let z : treeSize * n + 0 ≡ treeSize * n = omega arith in ap (λ (j : ℕ). getD l j 0) z
 
-    pub opened-place : o ≡ find (isKey (keyAt parts Part) (keyAt l Open n)) g 0
-    opened-place = place-of (keyAt parts Part) g k (keyAt l Open n) o ek eo
+    pub opened-place : o ≡ find (isKey (keyAt parts Parts) (keyAt l Open n)) g 0
+    opened-place = place-of (keyAt parts Parts) g k (keyAt l Open n) o ek eo
 
-    pub tree-found : (c : ℕ) → (2 < getD l (13 * n) 0 → c ≡ find (isKey (keyAt parts Part) (keyAt l Close n)) g 0)
-        → (y : ℕ) → (named (getD l (13 * n) 0) ≡ true → y ≡ find (isKey (keyAt symbols Symbol) (keyAt l Name n)) (length symbols) 0)
+    pub tree-found : (c : ℕ) → (2 < getD l (treeSize * n) 0 → c ≡ find (isKey (keyAt parts Parts) (keyAt l Close n)) g 0)
+        → (y : ℕ) → (named (getD l (treeSize * n) 0) ≡ true → y ≡ find (isKey (keyAt symbols Symbols) (keyAt l Name n)) (length symbols) 0)
         → rawFrom o c y (wordOf l n) ≡ rawOf parts symbols l n
     tree-found c fc y fy =
         tree-raw parts symbols l n o c y hn opened (λ v. fc (subst (λ (x : ℕ). 2 < x) head v) ∙ to (keyAt l Close n))
@@ -148,14 +150,14 @@ module _ (parts symbols l : List ℕ) (from : ℕ) where
     pub resolved-none : Resolved parts symbols l from 0 opens closes syms
     resolved-none = record { at = λ j h. absurd (omega arith) }
 
-    pub resolved-empty : (m : ℕ) → length l / 13 ≤ from → Resolved parts symbols l from m opens closes syms
+    pub resolved-empty : (m : ℕ) → listCount l ≤ from → Resolved parts symbols l from m opens closes syms
     resolved-empty m h = record { at = λ j k q. absurd (omega arith) }
 
     module _ (i : ℕ) (R : Resolved parts symbols l from i opens closes syms) where
       pub resolved-end : (m : ℕ) → length opens ≡ m → length opens ≤ i → Resolved parts symbols l from m opens closes syms
       resolved-end m e h = record { at = λ j k. R .at j (omega arith) }
 
-      pub resolved-past : (m : ℕ) → length l / 13 - from ≤ i → from < length l / 13 → Resolved parts symbols l from m opens closes syms
+      pub resolved-past : (m : ℕ) → listCount l - from ≤ i → from < listCount l → Resolved parts symbols l from m opens closes syms
       resolved-past m h c = record { at = λ j k q. R .at j (omega arith) q }
 
       pub resolved-more : (x : Indices) → rawFrom (x .opening) (x .closing) (x .symbol) (wordOf l (from + i)) ≡ rawOf parts symbols l (from + i)

@@ -6,12 +6,13 @@ use mathlib.Core.List.{List}
 use lib.ListN.{length, getD}
 use lib.Dec.{ltb}
 use Rattle.format.specs.Test.{if_then_else_}
+use Rattle.format.specs.Width.{partSize}
 use Rattle.format.specs.WordList.{wordOf, rawFrom, listCount}
 use Rattle.format.specs.Writer.{find, rawOf}
 use Rattle.places.specs.Key.{keyAt, isKey, shift}
 use Rattle.places.specs.Index.{Leads, Loaded, Ready}
 use Rattle.places.specs.declared.key.Layout.{Layout}
-use Rattle.places.specs.declared.key.Layout.the-variants.{Part, Symbol, Open, Close, Name}
+use Rattle.places.specs.declared.key.Layout.the-variants.{Parts, Symbols, Open, Close, Name}
 
 -- of trees from, from + 1, .. (m of them, as far as they exist) the indices that they use: "A part's index is its first place before those two, a symbol's its first place."
 pub record Resolved (parts symbols l : List ℕ) (from m : ℕ) (opens closes syms : List ℕ) : Type 0 where
@@ -20,7 +21,7 @@ pub record Resolved (parts symbols l : List ℕ) (from m : ℕ) (opens closes sy
 
 -- the sizes asked for: row 1's bounds on the tables, by their words, and some slots
 pub record Roomy (parts symbols partSlots symbolSlots : ℕ) : Type 0 where
-  pub ofParts : parts / 3 ≤ 2097152
+  pub ofParts : parts / partSize ≤ 2097152
   pub ofSymbols : symbols ≤ 1048576
   pub somePart : 0 < partSlots
   pub someSymbol : 0 < symbolSlots
@@ -29,14 +30,14 @@ pub record Roomy (parts symbols partSlots symbolSlots : ℕ) : Type 0 where
 
 -- what slots hold between two calls
 pub record Indexed (parts symbols partSlots symbolSlots : List ℕ) : Type 0 where
-  pub ofParts : Ready parts Part (length parts / 3 - 2) partSlots
-  pub ofSymbols : Ready symbols Symbol (length symbols) symbolSlots
+  pub ofParts : Ready parts Parts (length parts / partSize - 2) partSlots
+  pub ofSymbols : Ready symbols Symbols (length symbols) symbolSlots
 
 -- both tables are indexed whole, the parts but for the last two, which are behind the first g
 pub record Whole (parts symbols partSlots symbolSlots : List ℕ) (g : ℕ) : Type 0 where
-  pub count : g ≡ length parts / 3 - 2
-  pub ofParts : Loaded parts Part 0 g partSlots
-  pub ofSymbols : Loaded symbols Symbol 0 (length symbols) symbolSlots
+  pub count : g ≡ length parts / partSize - 2
+  pub ofParts : Loaded parts Parts 0 g partSlots
+  pub ofSymbols : Loaded symbols Symbols 0 (length symbols) symbolSlots
 
 -- ---- a table that is read through once for a run of keys: those of the trees `from`, from + 1, ..
 
@@ -67,7 +68,7 @@ pub record Tells (r : Bool) (l : List ℕ) (from m : ℕ) : Type 0 where
 
 -- the close part of a subtree has its place
 pub record Closed (parts : List ℕ) (g : ℕ) (l : List ℕ) (from m : ℕ) (closes : List ℕ) : Type 0 where
-  pub at : (j : ℕ) → j < m → 2 < wordOf l (from + j) 0 → getD closes j 0 ≡ find (isKey (keyAt parts Part) (keyAt l Close (from + j))) g 0
+  pub at : (j : ℕ) → j < m → 2 < wordOf l (from + j) 0 → getD closes j 0 ≡ find (isKey (keyAt parts Parts) (keyAt l Close (from + j))) g 0
 
 -- the first m numbers are the same
 pub record Copied (m : ℕ) (a b : List ℕ) : Type 0 where
@@ -75,9 +76,9 @@ pub record Copied (m : ℕ) (a b : List ℕ) : Type 0 where
 
 -- the first m trees of the run
 pub record Streamed (parts symbols l : List ℕ) (g from m : ℕ) (opens closes syms : List ℕ) : Type 0 where
-  pub opening : Placed parts Part g l Open from m opens
+  pub opening : Placed parts Parts g l Open from m opens
   pub closing : Closed parts g l from m closes
-  pub symbol : Placed symbols Symbol (length symbols) l Name from m syms
+  pub symbol : Placed symbols Symbols (length symbols) l Name from m syms
 
 -- r is no less than both bounds allow
 pub record Least (a b r : ℕ) : Type 0 where

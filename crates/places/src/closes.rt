@@ -3,18 +3,20 @@ use crate::key::Layout;
 use crate::key::key_at;
 use crate::key::same_key;
 use crate::stream::place_run;
-ghost use Prim.Native.Nat.{_+_, _/_, _<_, _≤_};
+use width::TREE_WORDS;
+ghost use Prim.Native.Nat.{_+_, _<_, _≤_};
 ghost use lib.ListN.{length};
+ghost use Rattle.format.specs.WordList.{listCount};
 ghost use Rattle.places.specs.Key.{keyCount};
 ghost use Rattle.places.specs.Places.{Placed, Tells, Closed, Copied};
-ghost use Rattle.places.specs.declared.key.Layout.the-variants.{Part, Open};
+ghost use Rattle.places.specs.declared.key.Layout.the-variants.{Parts, Open};
 
 // Whether tree n, if it is a subtree, closes with its open part.
 fn closes_as_open(l: &[u32], n: usize) -> bool
-    requires { ⌜ n < length (now l) / 13 ⌝ }
+    requires { ⌜ n < listCount (now l) ⌝ }
     ensures { λ r. ⌜ Tells r (now (l .entry)) n 1 ⌝ }
 {
-    if l[13 * n] <= 2 {
+    if l[TREE_WORDS * n] <= 2 {
         return true;
     }
     let opening = key_at(l, Layout::Open, n);
@@ -24,7 +26,7 @@ fn closes_as_open(l: &[u32], n: usize) -> bool
 
 // Whether all of them do, as a rule.
 fn all_close_as_open(l: &[u32], from: usize, m: usize) -> bool
-    requires { ⌜ from + m ≤ length (now l) / 13 ⌝ }
+    requires { ⌜ from + m ≤ listCount (now l) ⌝ }
     ensures { λ r. ⌜ Tells r (now (l .entry)) from m ⌝ }
 {
     let mut i: usize = 0;
@@ -59,10 +61,10 @@ pub(crate) fn stream_closes(
     opens: &[u32],
     closes: &mut [u32],
 )
-    requires { ⌜ (g ≤ keyCount (now parts) Part) × (g ≤ 2097152) × (from + m ≤ length (now l) / 13) ⌝ }
+    requires { ⌜ (g ≤ keyCount (now parts) Parts) × (g ≤ 2097152) × (from + m ≤ listCount (now l)) ⌝ }
     requires { ⌜ (m ≤ length (now opens)) × (m ≤ length (now closes)) ⌝ }
     requires { ⌜ (0 < length (now slots)) × (length (now slots) ≤ 1048576) ⌝ }
-    requires { ⌜ Placed (now parts) Part g (now l) Open from m (now opens) ⌝ }
+    requires { ⌜ Placed (now parts) Parts g (now l) Open from m (now opens) ⌝ }
     ensures { λ _. ⌜ Closed (now (parts .entry)) g (now (l .entry)) from m (now (closes .exit)) ⌝ }
 {
     if all_close_as_open(l, from, m) {
@@ -71,7 +73,7 @@ pub(crate) fn stream_closes(
     }
     place_run(
         parts,
-        Layout::Part,
+        Layout::Parts,
         g,
         l,
         Layout::Close,

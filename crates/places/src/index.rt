@@ -10,13 +10,13 @@ use slots::probe::size;
 ghost use mathlib.Core.Path.{_≡_};
 ghost use Prim.Native.Nat.{_+_, _<_, _≤_};
 ghost use lib.ListN.{length};
-ghost use Rattle.places.specs.Key.{keyAt, keyCount, shift};
+ghost use Rattle.places.specs.Key.{partOf, keyAt, keyCount, shift};
 ghost use Rattle.places.specs.Index.{slotOf, probeFor, portion, Held, Loaded, Within, Finds, Filled};
 
 // The slot where a key is looked for first.
 fn slot_of(k: Key, slots: usize) -> usize
     requires { ⌜ (0 < slots) × (slots ≤ 1048576) ⌝ }
-    ensures { λ r. ⌜ (r ≡ slotOf k slots) × (r < slots) ⌝ }
+    ensures { λ r. ⌜ (r ≡ slotOf (partOf k) slots) × (r < slots) ⌝ }
 {
     mix(k.file, k.ast_id, k.context, slots)
 }
@@ -25,7 +25,7 @@ fn slot_of(k: Key, slots: usize) -> usize
 fn look(t: &[u32], layout: Layout, base: usize, slots: &[u32], k: Key, start: usize) -> Looked
     requires { ⌜ start < length (now slots) ⌝ }
     requires { ⌜ Within (now t) layout base (now slots) ⌝ }
-    ensures { λ r. ⌜ r ≡ probeFor (shift (keyAt (now (t .entry)) layout) base) k (now (slots .entry)) start
+    ensures { λ r. ⌜ r ≡ probeFor (shift (keyAt (now (t .entry)) layout) base) (partOf k) (now (slots .entry)) start
         (length (now (slots .entry))) ⌝ }
 {
     let mut s = start;
@@ -55,7 +55,7 @@ pub(crate) fn find_key(
     k: Key,
 ) -> Looked
     requires { ⌜ Loaded (now t) layout base g (now slots) ⌝ }
-    ensures { λ r. ⌜ Finds (shift (keyAt (now (t .entry)) layout) base) g k r ⌝ }
+    ensures { λ r. ⌜ Finds (shift (keyAt (now (t .entry)) layout) base) g (partOf k) r ⌝ }
 {
     let start = slot_of(k, slots.len());
     look(t, layout, base, slots, k, start)

@@ -5,21 +5,25 @@ use crate::index::portion_of;
 use crate::key::Layout;
 use crate::stream::place_run;
 use crate::whole::resolve_whole;
+use width::PART_WORDS;
+use width::TREE_WORDS;
 ghost use mathlib.Core.Path.{_≡_};
 ghost use mathlib.Core.Bool.{_&&_};
 ghost use Prim.Native.Nat.{_+_, _-_, _/_, _<_, _≤_};
 ghost use lib.Dec.{leb};
 ghost use lib.ListN.{length};
+ghost use Rattle.format.specs.Width.{partSize};
+ghost use Rattle.format.specs.WordList.{listCount};
 ghost use Rattle.places.specs.Key.{keyCount};
 ghost use Rattle.places.specs.Index.{portion, Ready};
 ghost use Rattle.places.specs.Places.{Resolved, Roomy, Indexed, Placed, Closed, Streamed, Least};
-ghost use Rattle.places.specs.declared.key.Layout.the-variants.{Part, Symbol, Open, Close, Name};
+ghost use Rattle.places.specs.declared.key.Layout.the-variants.{Parts, Symbols, Open, Close, Name};
 
 // The number of parts before the last two.
 fn below_two(parts: &[u32]) -> usize
-    ensures { λ r. ⌜ r ≡ length (now (parts .entry)) / 3 - 2 ⌝ }
+    ensures { λ r. ⌜ r ≡ length (now (parts .entry)) / partSize - 2 ⌝ }
 {
-    let n = parts.len() / 3;
+    let n = parts.len() / PART_WORDS;
     if n < 2 {
         return 0;
     }
@@ -47,8 +51,8 @@ pub fn build(parts: &[u32], symbols: &[u32], part_slots: &mut [u32], symbol_slot
         (now («symbol_slots» .exit)) ⌝ }
 {
     let n = below_two(parts);
-    build_one(parts, Layout::Part, n, part_slots);
-    build_one(symbols, Layout::Symbol, symbols.len(), symbol_slots);
+    build_one(parts, Layout::Parts, n, part_slots);
+    build_one(symbols, Layout::Symbols, symbols.len(), symbol_slots);
 }
 
 // Whether both tables are one portion of their slots.
@@ -87,15 +91,15 @@ fn stream_parts(
     opens: &mut [u32],
     closes: &mut [u32],
 )
-    requires { ⌜ (g ≤ keyCount (now parts) Part) × (g ≤ 2097152) × (from + m ≤ length (now l) / 13) ⌝ }
+    requires { ⌜ (g ≤ keyCount (now parts) Parts) × (g ≤ 2097152) × (from + m ≤ listCount (now l)) ⌝ }
     requires { ⌜ (m ≤ length (now opens)) × (m ≤ length (now closes)) ⌝ }
     requires { ⌜ (0 < length (now slots)) × (length (now slots) ≤ 1048576) ⌝ }
-    ensures { λ _. ⌜ Placed (now (parts .entry)) Part g (now (l .entry)) Open from m (now (opens .exit)) ⌝ }
+    ensures { λ _. ⌜ Placed (now (parts .entry)) Parts g (now (l .entry)) Open from m (now (opens .exit)) ⌝ }
     ensures { λ _. ⌜ Closed (now (parts .entry)) g (now (l .entry)) from m (now (closes .exit)) ⌝ }
 {
     place_run(
         parts,
-        Layout::Part,
+        Layout::Parts,
         g,
         l,
         Layout::Open,
@@ -115,14 +119,14 @@ fn stream_symbols(
     slots: &mut [u32],
     syms: &mut [u32],
 )
-    requires { ⌜ (length (now symbols) ≤ 1048576) × (from + m ≤ length (now l) / 13) × (m ≤ length (now syms)) ⌝ }
+    requires { ⌜ (length (now symbols) ≤ 1048576) × (from + m ≤ listCount (now l)) × (m ≤ length (now syms)) ⌝ }
     requires { ⌜ (0 < length (now slots)) × (length (now slots) ≤ 1048576) ⌝ }
-    ensures { λ _. ⌜ Placed (now (symbols .entry)) Symbol (length (now (symbols .entry))) (now (l .entry)) Name from
+    ensures { λ _. ⌜ Placed (now (symbols .entry)) Symbols (length (now (symbols .entry))) (now (l .entry)) Name from
         m (now (syms .exit)) ⌝ }
 {
     place_run(
         symbols,
-        Layout::Symbol,
+        Layout::Symbols,
         symbols.len(),
         l,
         Layout::Name,
@@ -149,7 +153,7 @@ fn stream(
 )
     requires { ⌜ Roomy (length (now parts)) (length (now symbols)) (length (now «part_slots»))
         (length (now «symbol_slots»)) ⌝ }
-    requires { ⌜ (g ≡ length (now parts) / 3 - 2) × (from + m ≤ length (now l) / 13) ⌝ }
+    requires { ⌜ (g ≡ length (now parts) / partSize - 2) × (from + m ≤ listCount (now l)) ⌝ }
     requires { ⌜ (m ≤ length (now opens)) × (m ≤ length (now closes)) × (m ≤ length (now syms)) ⌝ }
     ensures { λ _. ⌜ Streamed (now (parts .entry)) (now (symbols .entry)) (now (l .entry)) g from m
         (now (opens .exit)) (now (closes .exit)) (now (syms .exit)) ⌝ }
@@ -179,7 +183,7 @@ fn resolve_stream(
     ensures { λ _. ⌜ Indexed (now (parts .entry)) (now (symbols .entry)) (now («part_slots» .exit))
         (now («symbol_slots» .exit)) ⌝ }
 {
-    let k = l.len() / 13;
+    let k = l.len() / TREE_WORDS;
     if k <= from {
         return;
     }

@@ -7,15 +7,16 @@ use crate::key::key_at;
 use crate::key::same_key;
 use crate::key::symbol_key;
 use slots::probe::Looked;
+use width::TREE_WORDS;
 ghost use mathlib.Core.Path.{_≡_};
 ghost use mathlib.Core.Bool.{true};
-ghost use Prim.Native.Nat.{_+_, _-_, _/_, _<_, _≤_};
+ghost use Prim.Native.Nat.{_+_, _-_, _<_, _≤_};
 ghost use lib.ListN.{length, getD};
-ghost use Rattle.format.specs.WordList.{wordOf, rawFrom};
+ghost use Rattle.format.specs.WordList.{wordOf, rawFrom, listCount};
 ghost use Rattle.format.specs.Writer.{find, rawOf};
-ghost use Rattle.places.specs.Key.{keyAt, keyCount, isKey, named};
+ghost use Rattle.places.specs.Key.{partOf, keyAt, keyCount, isKey, named};
 ghost use Rattle.places.specs.Index.{Loaded};
-ghost use Rattle.places.specs.declared.key.Layout.the-variants.{Part, Symbol, Open, Close, Name};
+ghost use Rattle.places.specs.declared.key.Layout.the-variants.{Parts, Symbols, Open, Close, Name};
 ghost use Rattle.places.specs.Places.{Resolved, Whole};
 
 // What a tree does not use may be any.
@@ -35,7 +36,7 @@ fn narrow(x: usize) -> u32
 // A key's first place among the g entries of a table.
 fn place_in(t: &[u32], table: Layout, slots: &[u32], g: usize, k: Key) -> u32
     requires { ⌜ Loaded (now t) table 0 g (now slots) ⌝ }
-    ensures { λ r. ⌜ r ≡ find (isKey (keyAt (now (t .entry)) table) k) g 0 ⌝ }
+    ensures { λ r. ⌜ r ≡ find (isKey (keyAt (now (t .entry)) table) (partOf k)) g 0 ⌝ }
 {
     match find_key(t, table, 0, slots, g, k) {
         Looked::Found(j) => narrow(j),
@@ -47,7 +48,7 @@ fn place_in(t: &[u32], table: Layout, slots: &[u32], g: usize, k: Key) -> u32
 // The close part of a subtree; of a leaf, which has none, the open one.
 fn close_or_open(l: &[u32], n: usize, sort: u32) -> Key
     requires { ⌜ (n < keyCount (now l) Open) × (n < keyCount (now l) Close) ⌝ }
-    ensures { λ r. ⌜ ((2 < sort) → (r ≡ keyAt (now (l .entry)) Close n)) ⌝ }
+    ensures { λ r. ⌜ ((2 < sort) → (partOf r ≡ keyAt (now (l .entry)) Close n)) ⌝ }
 {
     let opening = key_at(l, Layout::Open, n);
     let closing = key_at(l, Layout::Close, n);
@@ -67,10 +68,10 @@ fn close_place(
     g: usize,
     o: u32,
 ) -> u32
-    requires { ⌜ Loaded (now parts) Part 0 g (now slots) ⌝ }
+    requires { ⌜ Loaded (now parts) Parts 0 g (now slots) ⌝ }
     requires { ⌜ (n < keyCount (now l) Open) × (n < keyCount (now l) Close) ⌝ }
-    requires { ⌜ o ≡ find (isKey (keyAt (now parts) Part) (keyAt (now l) Open n)) g 0 ⌝ }
-    ensures { λ r. ⌜ ((2 < sort) → (r ≡ find (isKey (keyAt (now (parts .entry)) Part)
+    requires { ⌜ o ≡ find (isKey (keyAt (now parts) Parts) (keyAt (now l) Open n)) g 0 ⌝ }
+    ensures { λ r. ⌜ ((2 < sort) → (r ≡ find (isKey (keyAt (now (parts .entry)) Parts)
         (keyAt (now (l .entry)) Close n)) g 0)) ⌝ }
 {
     let opening = key_at(l, Layout::Open, n);
@@ -78,7 +79,7 @@ fn close_place(
     if same_key(closing, opening) {
         return o;
     }
-    place_in(parts, Layout::Part, slots, g, closing)
+    place_in(parts, Layout::Parts, slots, g, closing)
 }
 
 fn first_of(symbols: &[u32]) -> u32
@@ -93,7 +94,7 @@ fn first_of(symbols: &[u32]) -> u32
 // The symbol of a tree that has one; of another, the first of the table, which is found at once.
 fn name_or_first(l: &[u32], n: usize, sort: u32, symbols: &[u32]) -> Key
     requires { ⌜ n < keyCount (now l) Name ⌝ }
-    ensures { λ r. ⌜ ((named sort ≡ true) → (r ≡ keyAt (now (l .entry)) Name n)) ⌝ }
+    ensures { λ r. ⌜ ((named sort ≡ true) → (partOf r ≡ keyAt (now (l .entry)) Name n)) ⌝ }
 {
     let name = key_at(l, Layout::Name, n);
     let other = symbol_key(first_of(symbols));
@@ -104,13 +105,13 @@ fn name_or_first(l: &[u32], n: usize, sort: u32, symbols: &[u32]) -> Key
 }
 
 fn name_place(l: &[u32], n: usize, sort: u32, symbols: &[u32], slots: &[u32]) -> u32
-    requires { ⌜ Loaded (now symbols) Symbol 0 (length (now symbols)) (now slots) ⌝ }
+    requires { ⌜ Loaded (now symbols) Symbols 0 (length (now symbols)) (now slots) ⌝ }
     requires { ⌜ n < keyCount (now l) Name ⌝ }
-    ensures { λ r. ⌜ ((named sort ≡ true) → (r ≡ find (isKey (keyAt (now (symbols .entry)) Symbol)
+    ensures { λ r. ⌜ ((named sort ≡ true) → (r ≡ find (isKey (keyAt (now (symbols .entry)) Symbols)
         (keyAt (now (l .entry)) Name n)) (length (now (symbols .entry))) 0)) ⌝ }
 {
     let k = name_or_first(l, n, sort, symbols);
-    place_in(symbols, Layout::Symbol, slots, symbols.len(), k)
+    place_in(symbols, Layout::Symbols, slots, symbols.len(), k)
 }
 
 // No branch by the sort: which part and which symbol is looked for, is.
@@ -124,13 +125,13 @@ fn tree_indices(
     g: usize,
 ) -> Indices
     requires { ⌜ Whole (now parts) (now symbols) (now «part_slots») (now «symbol_slots») g ⌝ }
-    requires { ⌜ (n < length (now l) / 13) × (1 ≤ n) ⌝ }
+    requires { ⌜ (n < listCount (now l)) × (1 ≤ n) ⌝ }
     ensures { λ r. ⌜ rawFrom (r .opening) (r .closing) (r .symbol) (wordOf (now (l .entry)) n) ≡ rawOf
         (now (parts .entry)) (now (symbols .entry)) (now (l .entry)) n ⌝ }
 {
-    let sort = l[13 * n];
+    let sort = l[TREE_WORDS * n];
     let k = key_at(l, Layout::Open, n);
-    let o = place_in(parts, Layout::Part, part_slots, g, k);
+    let o = place_in(parts, Layout::Parts, part_slots, g, k);
     let c = close_place(l, n, sort, parts, part_slots, g, o);
     let y = name_place(l, n, sort, symbols, symbol_slots);
     Indices {
@@ -182,7 +183,7 @@ pub(crate) fn resolve_whole(
     ensures { λ _. ⌜ Resolved (now (parts .entry)) (now (symbols .entry)) (now (l .entry)) from
         (length (now (opens .entry))) (now (opens .exit)) (now (closes .exit)) (now (syms .exit)) ⌝ }
 {
-    let k = l.len() / 13;
+    let k = l.len() / TREE_WORDS;
     if k <= from {
         return;
     }

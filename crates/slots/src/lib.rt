@@ -1,3 +1,3 @@
-// A hash index of keys of three words: the hash, and the search from slot to slot.
+// A hash index of keys: the hash of three words, and the search from slot to slot.
 pub mod hash;
 pub mod probe;

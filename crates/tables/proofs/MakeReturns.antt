@@ -1,16 +1,18 @@
 -- Laws for the functions that make both tables.
-use Prim.Native.Nat.{ℕ, suc, _+_, _*_, _%_, _<_, _≤_}
+use Prim.Native.Nat.{ℕ, _+_, _*_, _%_, _<_, _≤_}
 use mathlib.Core.Path.{_≡_, refl, ap, ap₂, sym, _∙_, subst}
 use mathlib.Core.Bool.{Bool, true, false, _&&_}
-use mathlib.Core.List.{List, [], _∷_}
+use mathlib.Core.List.{List}
 use native.Mathlib.Omega.{arith}
-use lib.ListN.{length, getD, set}
+use lib.ListN.{length}
 use lib.Seq.{sets, sets-eq}
 use lib.Dec.{leb, eqb}
 use borrow.Author.Tests.{leb-true, le-leb}
 use Rattle.format.specs.Verdict as format
 use Rattle.format.specs.Verdict.{passed, refused, rule}
 use Rattle.format.specs.Word.{put}
+use Rattle.format.specs.Width.{partSize, openAt, closeAt, treeSize}
+use Rattle.format.specs.Part.{partWords}
 use Rattle.format.specs.WordList.{listCount, listSized, listRules, listRows}
 use Rattle.format.specs.MakeTables as tables
 use Rattle.format.specs.MakeTables.{keyCount, keysOf, tableKeys, tableWords, rootParts, partTable, partCounts, symbolTable, symbolCounts, tablesVerdict}
@@ -25,30 +27,28 @@ use Rattle.tree.specs.Refusal.{verdictAnswer}
 use Rattle.tree.specs.declared.refusal.Refusal.{Refusal}
 use Rattle.tree.specs.declared.refusal.Verdict.{Verdict}
 use Rattle.tree.specs.declared.refusal.Verdict.the-variants as verdicts
-use Rattle.keys.specs.Keys.{placeIn}
+use Rattle.keys.specs.Keys.{partIn, placeIn}
 use Rattle.keys.specs.Runs.{Room}
 use Rattle.entries.specs.Runs.{Made}
 use Rattle.distinct.specs.Count.{ample}
 use Rattle.tables.specs.Made.{tablesAnswer, PartsMade, TablesDone}
 use Rattle.tables.specs.declared.make.TablesReport.{TablesReport}
 use Rattle.tables.specs.declared.make.TablesReport.the-variants as answers
+use Rattle.keys.proofs.Lists.{sets-append}
 use Rattle.entries.proofs.TableLaw.{words-length}
 
 -- ---- the root's two parts
 
-pub three-stored : (o o₁ o₂ o₃ : List ℕ) (at a b c : ℕ) → o₁ ≡ set o at a → o₂ ≡ set o₁ (at + 1) b → o₃ ≡ set o₂ (at + 2) c → o₃ ≡ sets o at (a ∷ b ∷ c ∷ [])
-three-stored o o₁ o₂ o₃ at a b c p q r =
-    let i : at + 1 ≡ suc at = omega arith in
-    let j : at + 2 ≡ suc (at + 1) = omega arith in
-    rw (← i, ← j, ← p, ← q) r
+pub root-stored : (l o o₁ o₂ : List ℕ) (at : ℕ) → o₁ ≡ sets o at (partWords (partIn l openAt)) → o₂ ≡ sets o₁ (at + partSize) (partWords (partIn l closeAt))
+    → o₂ ≡ sets o at (rootParts l)
+unfolding partIn
+root-stored l o o₁ o₂ at q r =
+    r ∙ ap (λ (x : List ℕ). sets x (at + partSize) (partWords (partIn l closeAt))) q ∙ sets-append (partWords (partIn l openAt)) (partWords (partIn l closeAt)) o at
 
-pub root-stored : (l o o₁ o₂ : List ℕ) (at a b c d e f : ℕ) → a ≡ getD l 3 0 → b ≡ getD l 4 0 → c ≡ getD l 5 0 → d ≡ getD l 8 0 → e ≡ getD l 9 0 → f ≡ getD l 10 0
-    → o₁ ≡ sets o at (a ∷ b ∷ c ∷ []) → o₂ ≡ sets o₁ (at + 3) (d ∷ e ∷ f ∷ []) → o₂ ≡ sets o at (rootParts l)
-root-stored l o o₁ o₂ at a b c d e f pa pb pc pd pe pf q r =
-    let j : at + 3 ≡ suc (suc (suc at)) = omega arith in
-    r ∙ rw (q, pa, pb, pc, pd, pe, pf, j)
+pub root-inside : (l : List ℕ) (j : ℕ) → 1 ≤ listCount l → j + partSize ≤ treeSize → j + partSize ≤ length l
+root-inside l j h g = omega arith
 
-pub ruleset root-cases = (three-stored, root-stored)
+pub ruleset root-cases = (root-stored, root-inside)
 
 -- ---- the part table
 
@@ -68,21 +68,21 @@ unfolding put
 sets-put b at vs h = sets-eq vs b at h
 
 module _ (l : List ℕ) (p : ℕ) (w w₁ t t₁ : List ℕ) (M : Made l false p w w₁ t t₁) where
-  pub parts-made : (w₂ : List ℕ) → ample false (length (keysOf l false)) 6 (length w) (length t) ≡ true → w₂ ≡ sets w₁ (3 * p) (rootParts l)
+  pub parts-made : (w₂ : List ℕ) → ample false (length (keysOf l false)) (2 * partSize) (length w) (length t) ≡ true → w₂ ≡ sets w₁ (partSize * p) (rootParts l)
       → PartsMade l (p + 2) w w₂ t t₁
   unfolding partTable partCounts placeIn tableWords
   parts-made w₂ e q =
       let n : length (tableKeys l false) ≡ p = keys-many l false ∙ sym (M .number) in
-      let lw : length (tableWords l false) ≡ 3 * p = words-length l false (tableKeys l false) ∙ ap (λ (x : ℕ). 3 * x) n in
-      let room : 3 * length (keysOf l false) + 6 ≤ length w = ample-room l false 6 w t e .0 in
-      let fit : 3 * p + 6 ≤ length w = omega (arith, M .number) in
+      let lw : length (tableWords l false) ≡ partSize * p = words-length l false (tableKeys l false) ∙ ap (λ (x : ℕ). partSize * x) n in
+      let room : partSize * length (keysOf l false) + 2 * partSize ≤ length w = ample-room l false (2 * partSize) w t e .0 in
+      let fit : partSize * p + 2 * partSize ≤ length w = omega (arith, M .number) in
       let len : length w₁ ≡ length w = ap length (M .words) ∙ put-length w 0 (tableWords l false) (omega arith) in
-      let z : 0 + 3 * p ≡ 3 * p = omega arith in
+      let z : 0 + partSize * p ≡ partSize * p = omega arith in
       record {
         number = let y = parts-many l in omega arith;
-        words = q ∙ sets-put w₁ (3 * p) (rootParts l) (omega arith) ∙ ap (λ (x : List ℕ). put x (3 * p) (rootParts l)) (M .words)
+        words = q ∙ sets-put w₁ (partSize * p) (rootParts l) (omega arith) ∙ ap (λ (x : List ℕ). put x (partSize * p) (rootParts l)) (M .words)
             ∙ ap (λ (x : ℕ). put (put w 0 (tableWords l false)) x (rootParts l)) (sym z)
-            ∙ put-put w 0 (3 * p) (tableWords l false) (rootParts l) lw (omega arith);
+            ∙ put-put w 0 (partSize * p) (tableWords l false) (rootParts l) lw (omega arith);
         tallies = M .tallies;
       }
 
@@ -90,25 +90,28 @@ pub ruleset parts-cases = (room-ample, parts-made)
 
 -- ---- both
 
+rows-count : (l : List ℕ) → listRows l ≡ passed → (1 ≤ listCount l) × (listCount l ≤ 1048576)
+rows-count l e =
+    let a = both (rule (listSized l) 1 0) (listRules l) e .0 in
+    let b = and₃ (eqb (length l % treeSize) 0) (leb 1 (listCount l)) (leb (listCount l) 1048576) (rule-passed (listSized l) 1 0 a) in
+    (leb-true _ _ (b .1), leb-true _ _ (b .2))
+
+pub rows-some : (l : List ℕ) → listRows l ≡ passed → 1 ≤ listCount l
+rows-some l e = rows-count l e .0
+
 pub rows-fit : (l : List ℕ) (s : Bool) → listRows l ≡ passed → keyCount l s < 4294967295
 unfolding keyCount
 rows-fit l s e = go s
   where
-    most : listCount l ≤ 1048576
-    most =
-        let a = both (rule (listSized l) 1 0) (listRules l) e .0 in
-        let b = and₃ (eqb (length l % 13) 0) (leb 1 (listCount l)) (leb (listCount l) 1048576) (rule-passed (listSized l) 1 0 a) in
-        leb-true _ _ (b .2)
-
     go : (s : Bool) → keyCount l s < 4294967295
-    go true = let m : listCount l ≤ 1048576 = most in omega arith
-    go false = let m : listCount l ≤ 1048576 = most in omega arith
+    go true = let m : listCount l ≤ 1048576 = rows-count l e .1 in omega arith
+    go false = let m : listCount l ≤ 1048576 = rows-count l e .1 in omega arith
 
 module _ (l a b c d : List ℕ) (e : listRows l ≡ passed) where
   abbrev verdict : format.Verdict
   verdict = tablesVerdict l (length a) (length b) (length c) (length d)
 
-  sizes : (length (partTable l) ≡ 3 * length (keysOf l false) + 6) × (length (partCounts l) ≡ length (keysOf l false))
+  sizes : (length (partTable l) ≡ partSize * length (keysOf l false) + 2 * partSize) × (length (partCounts l) ≡ length (keysOf l false))
       × (length (symbolTable l) ≡ length (keysOf l true)) × (length (symbolCounts l) ≡ length (keysOf l true))
   sizes =
       let k = keys-many l false in let m = keys-many l true in
@@ -116,12 +119,12 @@ module _ (l a b c d : List ℕ) (e : listRows l ≡ passed) where
       let x = symbols-many l in let y = symbol-counts-many l in
       (omega arith, omega arith, omega arith, omega arith)
 
-  module _ (ea : ample false (length (keysOf l false)) 6 (length a) (length b) ≡ true) (ec : ample true (length (keysOf l true)) 0 (length c) (length d) ≡ true) where
+  module _ (ea : ample false (length (keysOf l false)) (2 * partSize) (length a) (length b) ≡ true) (ec : ample true (length (keysOf l true)) 0 (length c) (length d) ≡ true) where
     passes : verdict ≡ passed
     unfolding placeIn
     passes =
         let s = sizes in
-        let f : (3 * length (keysOf l false) + 6 ≤ length a) × (length (keysOf l false) ≤ length b) = ample-room l false 6 a b ea in
+        let f : (partSize * length (keysOf l false) + 2 * partSize ≤ length a) × (length (keysOf l false) ≤ length b) = ample-room l false (2 * partSize) a b ea in
         let g : (length (keysOf l true) + 0 ≤ length c) × (length (keysOf l true) ≤ length d) = ample-room l true 0 c d ec in
         made-complete l (length a) (length b) (length c) (length d) e
         (record { parts = omega (arith, s .0, f .0); partTallies = omega (arith, s .1, f .1); symbols = omega (arith, s .2, g .0); symbolTallies = omega (arith, s .3, g .1) })
@@ -154,13 +157,13 @@ module _ (l a b c d : List ℕ) (r n : ℕ) (v : tablesVerdict l (length a) (len
   }
 
 module _ (l a b c d : List ℕ) (e : listRows l ≡ passed) where
-  short-parts : ample false (length (keysOf l false)) 6 (length a) (length b) ≡ false → runs.Room l (length a) (length b) (length c) (length d) → ⊥
+  short-parts : ample false (length (keysOf l false)) (2 * partSize) (length a) (length b) ≡ false → runs.Room l (length a) (length b) (length c) (length d) → ⊥
   unfolding ample placeIn
   short-parts f R =
       let s = sizes l a b c d e in
-      let x : 3 * length (keysOf l false) + 6 ≤ length a = omega (arith, s .0, R .parts) in
+      let x : partSize * length (keysOf l false) + 2 * partSize ≤ length a = omega (arith, s .0, R .parts) in
       let y : length (keysOf l false) ≤ length b = omega (arith, s .1, R .partTallies) in
-      true-false (leb (3 * length (keysOf l false) + 6) (length a) && leb (length (keysOf l false)) (length b)) (simp (le-leb _ _ x, le-leb _ _ y)) f
+      true-false (leb (partSize * length (keysOf l false) + 2 * partSize) (length a) && leb (length (keysOf l false)) (length b)) (simp (le-leb _ _ x, le-leb _ _ y)) f
 
   short-symbols : ample true (length (keysOf l true)) 0 (length c) (length d) ≡ false → runs.Room l (length a) (length b) (length c) (length d) → ⊥
   unfolding ample placeIn
@@ -171,7 +174,7 @@ module _ (l a b c d : List ℕ) (e : listRows l ≡ passed) where
       true-false (leb (length (keysOf l true) + 0) (length c) && leb (length (keysOf l true)) (length d)) (simp (le-leb _ _ x, le-leb _ _ y)) f
 
   module _ (q : Bool) where
-    pub parts-6 : q ≡ ample false (length (keysOf l false)) 6 (length a) (length b) → q ≡ false
+    pub parts-6 : q ≡ ample false (length (keysOf l false)) (2 * partSize) (length a) (length b) → q ≡ false
         → TablesDone l a b c d (answers.Refused (record { number = 6; tree = 0 })) a b c d
     parts-6 f h = refused-done l a b c d 6 0 (made-short l (length a) (length b) (length c) (length d) e (short-parts (sym f ∙ h)))
 
@@ -182,7 +185,7 @@ module _ (l a b c d : List ℕ) (e : listRows l ≡ passed) where
 pub told : (x b : Bool) → b ≡ x → b ≡ true → x ≡ true
 told x b e h = sym e ∙ h
 
-pub ruleset make-cases = (told, rows-fit, parts-6, symbols-6)
+pub ruleset make-cases = (told, rows-some, rows-fit, parts-6, symbols-6)
 
 -- ---- rows 1 to 4
 

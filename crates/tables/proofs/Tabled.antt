@@ -9,6 +9,7 @@ use lib.Dec.{leb, eqb}
 use lib.ListN.{length, take, drop}
 use Rattle.format.specs.Verdict.{Verdict, passed, refused, rule}
 use Rattle.format.specs.Word.{put}
+use Rattle.format.specs.Width.{partSize, treeSize}
 use Rattle.format.specs.WordList.{listCount, listSized, listRules, listRows}
 use Rattle.format.specs.Writer.{listVerdict}
 use Rattle.format.specs.MakeTables.{partTable, partCounts, symbolTable, symbolCounts, partTotal, tablesVerdict, tablesReport}
@@ -62,7 +63,7 @@ module _ (l a b c d : List ℕ) (r : TablesReport) (a′ b′ c′ d′ : List �
       let n = z .1 in
       let m = part-words l in
       let k = part-counts-many l in
-      let x = begins a a′ (partTable l) (3 * p) (done .runs .parts ∙ rw v) (omega arith) in
+      let x = begins a a′ (partTable l) (partSize * p) (done .runs .parts ∙ rw v) (omega arith) in
       let y = begins b b′ (partCounts l) (p - 2) (done .runs .partTallies ∙ rw v) (omega arith) in
       let u = begins c c′ (symbolTable l) s (done .runs .symbols ∙ rw v) (sym (z .2)) in
       let w = begins d d′ (symbolCounts l) s (done .runs .symbolTallies ∙ rw v) (sym (symbol-counts-many l ∙ z .2)) in
@@ -101,11 +102,11 @@ module _ (l a b c d : List ℕ) (r : TablesReport) (a′ b′ c′ d′ : List �
       let v = answer-refused l verdict x (sym (done .answer) ∙ e) in
       (done .runs .parts ∙ rw v, done .runs .partTallies ∙ rw v, done .runs .symbols ∙ rw v, done .runs .symbolTallies ∙ rw v)
 
--- six words a tree for the parts, two for their counts, one for the symbols and one for theirs suffice
-pub room-enough : (l : List ℕ) (a b c d : ℕ) → listRows l ≡ passed → 6 * listCount l ≤ a → 2 * listCount l ≤ b → listCount l ≤ c → listCount l ≤ d → Room l a b c d
+-- two parts a tree and two counts, a symbol and its count suffice
+pub room-enough : (l : List ℕ) (a b c d : ℕ) → listRows l ≡ passed → 2 * partSize * listCount l ≤ a → 2 * listCount l ≤ b → listCount l ≤ c → listCount l ≤ d → Room l a b c d
 room-enough l a b c d e ha hb hc hd =
     let s = rule-passed (listSized l) 1 0 (both (rule (listSized l) 1 0) (listRules l) e .0) in
-    let k = leb-true 1 (listCount l) (and₃ (eqb (length l % 13) 0) (leb 1 (listCount l)) (leb (listCount l) 1048576) s .1) in
+    let k = leb-true 1 (listCount l) (and₃ (eqb (length l % treeSize) 0) (leb 1 (listCount l)) (leb (listCount l) 1048576) s .1) in
     let m = parts-most l in
     let w = part-words l in
     let n = part-counts-many l in

@@ -1,19 +1,21 @@
 // The tables of a list, made in lent runs.
 use distinct::count::has_room;
 use entries::table::make_table;
-use keys::run::get_at;
-use keys::run::set_at;
+use keys::key::put_part;
 use list::rows::list_rows;
 use tree::refusal::Refusal;
 use tree::refusal::Verdict;
+use width::CLOSE_AT;
+use width::OPEN_AT;
+use width::PART_WORDS;
 ghost use mathlib.Core.Path.{_≡_};
 ghost use mathlib.Core.Bool.{true, false};
-ghost use mathlib.Core.List.{[], _∷_};
-ghost use Prim.Native.Nat.{_<_};
+ghost use Prim.Native.Nat.{_*_, _<_, _≤_};
 ghost use lib.ListN.{length};
 ghost use lib.Seq.{sets};
 ghost use Rattle.format.specs.Verdict.{passed};
-ghost use Rattle.format.specs.WordList.{listRows};
+ghost use Rattle.format.specs.Width.{partSize};
+ghost use Rattle.format.specs.WordList.{listCount, listRows};
 ghost use Rattle.format.specs.MakeTables.{keyCount, keysOf, rootParts};
 ghost use Rattle.distinct.specs.Count.{ample};
 ghost use Rattle.tables.specs.Made.{PartsMade, TablesDone};
@@ -24,33 +26,25 @@ pub enum TablesReport {
     Refused(Refusal),
 }
 
-fn put_three(out: &mut [u32], at: usize, a: u32, b: u32, c: u32)
-    requires { ⌜ at < 12884901900 ⌝ }
-    ensures { λ _. ⌜ now (out .exit) ≡ sets (now (out .entry)) at (a ∷ b ∷ c ∷ []) ⌝ }
-{
-    set_at(out, at, a);
-    set_at(out, at + 1, b);
-    set_at(out, at + 2, c);
-}
-
 // The root's open and close part.
 fn put_root(l: &[u32], out: &mut [u32], at: usize)
-    requires { ⌜ at < 12884901890 ⌝ }
+    requires { ⌜ (1 ≤ listCount (now l)) × (at ≤ partSize * 4294967294) ⌝ }
     ensures { λ _. ⌜ now (out .exit) ≡ sets (now (out .entry)) at (rootParts (now (l .entry))) ⌝ }
 {
-    put_three(out, at, get_at(l, 3), get_at(l, 4), get_at(l, 5));
-    put_three(out, at + 3, get_at(l, 8), get_at(l, 9), get_at(l, 10));
+    put_part(l, OPEN_AT, out, at);
+    put_part(l, CLOSE_AT, out, at + PART_WORDS);
 }
 
 // The part table: the parts below the root, then the root's two. The answer is how many there are.
 fn make_parts(l: &[u32], parts: &mut [u32], tallies: &mut [u32]) -> usize
-    requires { ⌜ (keyCount (now l) false < 4294967295)
-        × (ample false (length (keysOf (now l) false)) 6 (length (now parts)) (length (now tallies)) ≡ true) ⌝ }
+    requires { ⌜ (1 ≤ listCount (now l)) × (keyCount (now l) false < 4294967295) ⌝ }
+    requires { ⌜ ample false (length (keysOf (now l) false)) (2 * partSize)
+        (length (now parts)) (length (now tallies)) ≡ true ⌝ }
     ensures { λ r. ⌜ PartsMade (now (l .entry)) r
         (now (parts .entry)) (now (parts .exit)) (now (tallies .entry)) (now (tallies .exit)) ⌝ }
 {
     let p = make_table(l, false, parts, tallies);
-    put_root(l, parts, 3 * p);
+    put_root(l, parts, PART_WORDS * p);
     p + 2
 }
 
@@ -63,7 +57,7 @@ fn make_both(
     symbol_counts: &mut [u32],
 ) -> TablesReport
     requires { ⌜ listRows (now l) ≡ passed ⌝ }
-    requires { ⌜ ample false (length (keysOf (now l) false)) 6
+    requires { ⌜ ample false (length (keysOf (now l) false)) (2 * partSize)
         (length (now parts)) (length (now «part_counts»)) ≡ true ⌝ }
     requires { ⌜ ample true (length (keysOf (now l) true)) 0
         (length (now symbols)) (length (now «symbol_counts»)) ≡ true ⌝ }
@@ -92,7 +86,7 @@ fn make_if_room(
         (now («part_counts» .entry)) (now (symbols .entry)) (now («symbol_counts» .entry))
         r (now (parts .exit)) (now («part_counts» .exit)) (now (symbols .exit)) (now («symbol_counts» .exit)) ⌝ }
 {
-    if has_room(l, false, 6, parts.len(), part_counts.len()) {
+    if has_room(l, false, 2 * PART_WORDS, parts.len(), part_counts.len()) {
         if has_room(l, true, 0, symbols.len(), symbol_counts.len()) {
             return make_both(l, parts, part_counts, symbols, symbol_counts);
         }

@@ -1,7 +1,7 @@
 use Prim.Native.Nat.{_<_}
 use mathlib.Core.Path.{_≡_}
 use lib.ListN.{length}
-use Rattle.places.specs.Key.{keyAt, shift, isKey}
+use Rattle.places.specs.Key.{partOf, keyAt, shift, isKey}
 use Rattle.slots.specs.Probe.{probe}
 use borrow.Author.Needs.{needs}
 use Rattle.places.proofs.IndexReturns.{look-cases}
@@ -15,7 +15,7 @@ use Rattle.places.proofs.key.key_from.Reads as key-from-reads
 use Rattle.places.proofs.key.same_key.Reads as same-key-reads
 
 abbrev Inv-loop : tie.InvT-loop
-Inv-loop t layout base slots k start s₀ left₀ s left = (s < length slots) × (probe (length slots) slots (isKey (shift (keyAt t layout) base) k) start (length slots) ≡ probe (length slots) slots (isKey (shift (keyAt t layout) base) k) s left)
+Inv-loop t layout base slots k start s₀ left₀ s left = (s < length slots) × (probe (length slots) slots (isKey (shift (keyAt t layout) base) (partOf k)) start (length slots) ≡ probe (length slots) slots (isKey (shift (keyAt t layout) base) (partOf k)) s left)
 
 abbrev μ-loop : tie.MeasureT-loop
 μ-loop t layout base slots k start s₀ left₀ s left = left

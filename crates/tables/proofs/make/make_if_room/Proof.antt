@@ -7,6 +7,9 @@ use Rattle.tables.proofs.make.make_if_room.Lts as lts
 use Rattle.distinct.proofs.count.has_room.Reads as has-room-reads
 use Rattle.tables.proofs.make.make_both.Reads as make-both-reads
 
+mul-has-room : tie.Need-mul-has-room
+mul-has-room c = search (needs, make-cases)
+
 has-room-requires : tie.Need-has-room-requires
 has-room-requires c κs = (search (needs, make-cases), search (needs, make-cases))
 
@@ -41,6 +44,7 @@ pub make-if-room-spec : {M : Type 1} → statement M
 make-if-room-spec =
     tie.close
     (tie.spec
+    mul-has-room
     has-room-requires
     has-room-requires-2
     make-both-requires
