@@ -8,7 +8,8 @@ use borrow.Author.Tests.{le-leb, lt-leb, eq-eqb, ne-eqb, not-true, not-false}
 use lib.Dec.{leb}
 use lib.ListN.{length}
 use Rattle.format.specs.Word.{byteAt, wordAt}
-use Rattle.format.specs.Bundle.{marked, isLastRecord, lastRecord, bundleAt}
+use Rattle.format.specs.Width.{partSize}
+use Rattle.format.specs.Bundle.{partBytes, marked, isLastRecord, lastRecord, bundleAt}
 use Rattle.bundle.specs.Answer.{isEntry, readAnswer, lastAnswer}
 use Rattle.bundle.specs.declared.read.BundleRead.{BundleRead}
 use Rattle.bundle.specs.declared.read.BundleRead.the-variants.{Bundle, Bad}
@@ -90,13 +91,13 @@ same-contents : (t x x′ y y′ s s′ : ℕ) → x ≡ x′ → y ≡ y′ →
     → Bundle (record { trees = t; parts = x; symbols = y; start = s }) ≡ Bundle (record { trees = t; parts = x′; symbols = y′; start = s′ })
 same-contents t x x′ y y′ s s′ e f g = rw (e, f, g)
 
-last-alike : (b : List ℕ) (parts symbols p : ℕ) (partWords symbolWords : List ℕ) → length partWords ≡ 3 * parts → length symbolWords ≡ symbols
+last-alike : (b : List ℕ) (parts symbols p : ℕ) (partWords symbolWords : List ℕ) → length partWords ≡ partSize * parts → length symbolWords ≡ symbols
     → readAnswer b (lastRecord b partWords symbolWords p) ≡ lastAnswer b parts symbols p
 unfolding readAnswer lastAnswer
-last-alike b parts symbols p partWords symbolWords three one = go _ refl
+last-alike b parts symbols p partWords symbolWords x y = go _ refl
   where
     go : (z : Bool) → isLastRecord b p ≡ z → readAnswer b (lastRecord b partWords symbolWords p) ≡ lastAnswer b parts symbols p
-    go true d = simp d (same-contents _ _ _ _ _ _ _ (omega arith) one (start-of b (p + 10) (last-inside b p d)))
+    go true d = simp d (same-contents _ _ _ _ _ _ _ (omega arith) y (start-of b (p + 10) (last-inside b p d)))
     go false d = simp d
 
 module _ (b : List ℕ) (parts symbols p : ℕ) (c : Counted b parts symbols p) where
@@ -104,8 +105,8 @@ module _ (b : List ℕ) (parts symbols p : ℕ) (c : Counted b parts symbols p) 
   unfolding readAnswer
   read-end h = sym (ap (readAnswer b) (counted-end b parts symbols p c h))
 
-  module _ (x : Bool) (e : x ≡ isEntry b 0x50 14 p) where
-    pub read-part : x ≡ true → Counted b (parts + 1) symbols (p + 14)
+  module _ (x : Bool) (e : x ≡ isEntry b 0x50 partBytes p) where
+    pub read-part : x ≡ true → Counted b (parts + 1) symbols (p + partBytes)
     unfolding isEntry
     read-part h = counted-part b parts symbols p c (sym e ∙ h)
 
@@ -118,6 +119,6 @@ module _ (b : List ℕ) (parts symbols p : ℕ) (c : Counted b parts symbols p) 
       unfolding isEntry
       read-last r k q =
           let d = counted-last b parts symbols p c (sym e ∙ h) (sym f ∙ not-true y k) in
-          q ∙ sym (ap (readAnswer b) d ∙ last-alike b parts symbols p (c .partWords) (c .symbolWords) (c .three) (c .one))
+          q ∙ sym (ap (readAnswer b) d ∙ last-alike b parts symbols p (c .partWords) (c .symbolWords) (c .ofParts) (c .ofSymbols))
 
 pub ruleset read-cases = (counted-none, read-end, read-part, read-symbol, read-last)

@@ -8,7 +8,8 @@ use borrow.Author.Tests.{eqb-true, leb-true}
 use lib.Dec.{leb, eqb}
 use lib.ListN.{length, drop, length-append, length-drop}
 use Rattle.format.specs.Word.{byteAt}
-use Rattle.format.specs.Bundle.{BundleRead, bundle, badBundle, marked, isPartRecord, isSymbolRecord, isLastRecord, partRecord, symbolRecord, behind, lastRecord, records, bundleAt}
+use Rattle.format.specs.Width.{partSize}
+use Rattle.format.specs.Bundle.{partBytes, BundleRead, bundle, badBundle, marked, isPartRecord, isSymbolRecord, isLastRecord, partRecord, symbolRecord, behind, lastRecord, records, bundleAt}
 use Rattle.format.proofs.Each.{and-left, and-right}
 use Rattle.format.proofs.BundleLaw.{records-enough}
 
@@ -16,7 +17,7 @@ module _ (b : List ℕ) where
   -- the second byte of a mark tells a part from a symbol
   not-both : (p : ℕ) → isPartRecord b p ≡ true → isSymbolRecord b p ≡ false
   not-both p e =
-      let m = and-left (marked b 0x53 0x50 p) (leb (p + 14) (length b)) e in
+      let m = and-left (marked b 0x53 0x50 p) (leb (p + partBytes) (length b)) e in
       let y = eqb-true (byteAt b (p + 1)) 0x50 (and-right (leb (p + 2) (length b) && eqb (byteAt b p) 0x53) (eqb (byteAt b (p + 1)) 0x50) m) in
       go (leb (p + 2) (length b) && eqb (byteAt b p) 0x53) _ y
     where
@@ -39,8 +40,8 @@ module _ (b : List ℕ) where
   pub record Counted (parts symbols p : ℕ) : Type 0 where
     pub partWords : List ℕ
     pub symbolWords : List ℕ
-    pub three : length partWords ≡ 3 * parts
-    pub one : length symbolWords ≡ symbols
+    pub ofParts : length partWords ≡ partSize * parts
+    pub ofSymbols : length symbolWords ≡ symbols
     pub inside : p ≤ length b
     pub fewParts : parts ≤ p
     pub fewSymbols : symbols ≤ p
@@ -51,8 +52,8 @@ module _ (b : List ℕ) where
       record {
         partWords = [];
         symbolWords = [];
-        three = refl;
-        one = refl;
+        ofParts = refl;
+        ofSymbols = refl;
         inside = omega arith;
         fewParts = omega arith;
         fewSymbols = omega arith;
@@ -60,26 +61,26 @@ module _ (b : List ℕ) where
       }
 
   module _ (parts symbols p : ℕ) (c : Counted parts symbols p) where
-    pub counted-part : isPartRecord b p ≡ true → Counted (parts + 1) symbols (p + 14)
+    pub counted-part : isPartRecord b p ≡ true → Counted (parts + 1) symbols (p + partBytes)
     counted-part e =
         let f = not-both p e in
-        let h = leb-true (p + 14) (length b) (and-right (marked b 0x53 0x50 p) (leb (p + 14) (length b)) e) in
+        let h = leb-true (p + partBytes) (length b) (and-right (marked b 0x53 0x50 p) (leb (p + partBytes) (length b)) e) in
         let g : (isPartRecord b p || isSymbolRecord b p) ≡ true = simp e in
         let s = step (c .partWords) (c .symbolWords) p g in
-        let n : length (partRecord b p) ≡ 3 = simp e in
+        let n : length (partRecord b p) ≡ partSize = simp e in
         let m : length (symbolRecord b p) ≡ 0 = simp f in
-        let k : behind b p ≡ p + 14 = simp e in
+        let k : behind b p ≡ p + partBytes = simp e in
         let l₁ = length-append (c .partWords) (partRecord b p) in
         let l₂ = length-append (c .symbolWords) (symbolRecord b p) in
-        let t = c .three in
-        let o = c .one in
+        let t = c .ofParts in
+        let o = c .ofSymbols in
         let u = c .fewParts in
         let v = c .fewSymbols in
         record {
           partWords = c .partWords ++ partRecord b p;
           symbolWords = c .symbolWords ++ symbolRecord b p;
-          three = omega arith;
-          one = omega arith;
+          ofParts = omega arith;
+          ofSymbols = omega arith;
           inside = h;
           fewParts = omega arith;
           fewSymbols = omega arith;
@@ -96,15 +97,15 @@ module _ (b : List ℕ) where
         let k : behind b p ≡ p + 6 = simp e in
         let l₁ = length-append (c .partWords) (partRecord b p) in
         let l₂ = length-append (c .symbolWords) (symbolRecord b p) in
-        let t = c .three in
-        let o = c .one in
+        let t = c .ofParts in
+        let o = c .ofSymbols in
         let u = c .fewParts in
         let v = c .fewSymbols in
         record {
           partWords = c .partWords ++ partRecord b p;
           symbolWords = c .symbolWords ++ symbolRecord b p;
-          three = omega arith;
-          one = omega arith;
+          ofParts = omega arith;
+          ofSymbols = omega arith;
           inside = h;
           fewParts = omega arith;
           fewSymbols = omega arith;

@@ -5,6 +5,7 @@ use mathlib.Core.List.{List}
 use native.Mathlib.Omega.{arith}
 use lib.ListN.{length, take, drop, length-drop}
 use lib.Seq.{take-all}
+use Rattle.format.specs.Width.{partSize}
 use Rattle.format.specs.Bundle as bundles
 use Rattle.format.specs.Bundle.{bundleAt}
 use Rattle.bundle.specs.Answer.{readAnswer}
@@ -23,7 +24,7 @@ same-bundle x y e = cc
 pub record Holds (b : List ℕ) (x : Contents) (B : bundles.Bundle) : Type 0 where
   pub reads : bundleAt b ≡ bundles.bundle B
   pub trees : x .trees ≡ B .trees
-  pub parts : x .parts ≡ length (B .parts) / 3
+  pub parts : x .parts ≡ length (B .parts) / partSize
   pub symbols : x .symbols ≡ length (B .symbols)
   pub bytes : drop (x .start) b ≡ B .bytes
   pub inside : x .start ≤ length b

@@ -6,6 +6,7 @@ use lib.Dec.{leb}
 use lib.ListN.{length}
 use Rattle.format.specs.Test.{if_then_else_}
 use Rattle.format.specs.Word.{wordAt}
+use Rattle.format.specs.Width.{partSize}
 use Rattle.format.specs.Bundle as format
 use Rattle.bundle.specs.declared.read.BundleRead.{BundleRead}
 use Rattle.bundle.specs.declared.read.BundleRead.the-variants.{Bundle, Bad}
@@ -14,10 +15,10 @@ use Rattle.bundle.specs.declared.read.BundleRead.the-variants.{Bundle, B
 unfoldable pub isEntry : List ℕ → ℕ → ℕ → ℕ → Bool
 isEntry b y n p = format.marked b 0x53 y p && leb (p + n) (length b)
 
--- "`SP` and 12 bytes for one part": three words a part
+-- "`SP` and 12 bytes for one part": its words, four bytes each
 unfoldable pub readAnswer : List ℕ → format.BundleRead → BundleRead
 readAnswer b (format.bundle B) =
-    Bundle (record { trees = B .trees; parts = length (B .parts) / 3; symbols = length (B .symbols); start = length b - length (B .bytes) })
+    Bundle (record { trees = B .trees; parts = length (B .parts) / partSize; symbols = length (B .symbols); start = length b - length (B .bytes) })
 readAnswer b format.badBundle = Bad
 
 -- the refusal's number of each case, 0 for none: "bad bundle" is 1

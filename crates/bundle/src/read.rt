@@ -2,6 +2,7 @@
 use pack::unchecked::byte_at;
 use pack::unchecked::word_at;
 use tree::raw::place;
+use width::PART_WORDS;
 ghost use mathlib.Core.Path.{_≡_};
 ghost use Prim.Native.Nat.{_+_, _≤_};
 ghost use lib.ListN.{length};
@@ -11,7 +12,7 @@ ghost use Rattle.bundle.specs.Answer.{isEntry, lastAnswer, readAnswer};
 // The second byte of a mark that begins with S, and the bytes of such a record with its mark.
 const PART: u32 = 0x50;
 
-const PART_BYTES: usize = 14;
+const PART_BYTES: usize = 2 + 4 * PART_WORDS;
 
 const SYMBOL: u32 = 0x59;
 

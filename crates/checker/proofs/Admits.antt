@@ -6,6 +6,7 @@ use lib.ListN.{length}
 use Rattle.format.specs.Verdict.{passed}
 use Rattle.format.specs.Check.{check, Admitted}
 use Rattle.format.specs.Rule.{WalkRule}
+use Rattle.format.specs.Width.{partSize}
 use Rattle.format.specs.Buffer.{wordShape, ownReader, bufferCheck, rawShape, sizeReader}
 use Rattle.format.specs.WordList.{listCount}
 use Rattle.format.specs.Writer.{listVerdict, packed}
@@ -58,8 +59,8 @@ module _ (b : List ℕ) (k parts symbols : ℕ) (r : Answer) (says : r ≡ verdi
   sizes-passed a = says ∙ ap verdictAnswer (check-complete rawShape (sizeReader b k parts symbols) a)
 
 -- both answer alike where the part words are whole parts
-pub alike : (b : List ℕ) (k : ℕ) (parts symbols : List ℕ) (r s : Answer) → length parts % 3 ≡ 0 → r ≡ verdictAnswer (bufferCheck b k parts symbols)
-    → s ≡ verdictAnswer (check rawShape (sizeReader b k (length parts / 3) (length symbols))) → r ≡ s
+pub alike : (b : List ℕ) (k : ℕ) (parts symbols : List ℕ) (r s : Answer) → length parts % partSize ≡ 0 → r ≡ verdictAnswer (bufferCheck b k parts symbols)
+    → s ≡ verdictAnswer (check rawShape (sizeReader b k (length parts / partSize) (length symbols))) → r ≡ s
 alike b k parts symbols r s h e f = e ∙ ap verdictAnswer (own-check b k parts symbols h) ∙ sym f
 
 -- ---- whatever the writer makes is passed

@@ -13,6 +13,7 @@ use Rattle.format.specs.Nest.{nest, run}
 use Rattle.format.specs.Check.{placeOf, reading, listing, readRule, check}
 use Rattle.format.specs.Descent.{LeafAt, SubtreeAt, Upto, Unnests, ReadTo, afterSizes}
 use Rattle.format.specs.Sight.{sight}
+use Rattle.format.specs.Width.{partSize}
 use Rattle.format.specs.Tables.{tablesSized}
 use Rattle.format.specs.Buffer.{rawShape, sizeReader, wordShape, ownReader, bufferCheck}
 use Rattle.format.proofs.Each.{and-left}
@@ -352,13 +353,13 @@ and-false true y z e = rw e
 and-false false y z e = refl
 
 module _ (b : List ℕ) (k : ℕ) (parts symbols : List ℕ) (z : Answer) where
-  pub buffer-one : (length parts % 3 ≡ 0 → ⊥) → Says z (refused 1 0) → Says z (bufferCheck b k parts symbols)
+  pub buffer-one : (length parts % partSize ≡ 0 → ⊥) → Says z (refused 1 0) → Says z (bufferCheck b k parts symbols)
   unfolding ownReader
   buffer-one h q =
-      let d = and-false (leb 1 k && leb k 1048576) _ _ (ne-eqb (length parts % 3) 0 h) in
+      let d = and-false (leb 1 k && leb k 1048576) _ _ (ne-eqb (length parts % partSize) 0 h) in
       q ∙ ap verdictAnswer (check-unsized wordShape (ownReader b k parts symbols) d)
 
-  pub buffer-on : length parts % 3 ≡ 0 → Says z (check rawShape (sizeReader b k (length parts / 3) (length symbols)))
+  pub buffer-on : length parts % partSize ≡ 0 → Says z (check rawShape (sizeReader b k (length parts / partSize) (length symbols)))
       → Says z (bufferCheck b k parts symbols)
   buffer-on h q = q ∙ ap verdictAnswer (sym (own-check b k parts symbols h))
 

@@ -8,6 +8,7 @@ use tree::refusal::Refusal;
 use tree::refusal::Verdict;
 use tree::sizes::counts_sized;
 use tree::sizes::trees_sized;
+use width::PART_WORDS;
 ghost use Prim.Native.Nat.{_+_, _<_, _≤_};
 ghost use mathlib.Core.Path.{_≡_};
 ghost use Rattle.format.specs.Verdict as verdict;
@@ -245,8 +246,8 @@ pub fn check_buffer(b: &[u8], trees: u32, parts: &[u32], symbols: &[u32]) -> Ver
     ensures { λ r. ⌜ r ≡ verdictAnswer
         (bufferCheck (now (b .entry)) trees (now (parts .entry)) (now (symbols .entry))) ⌝ }
 {
-    if parts.len() % 3 != 0 {
+    if parts.len() % PART_WORDS != 0 {
         return refused(1, 0);
     }
-    check(b, trees, parts.len() / 3, symbols.len())
+    check(b, trees, parts.len() / PART_WORDS, symbols.len())
 }

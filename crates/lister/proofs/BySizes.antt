@@ -13,6 +13,7 @@ use Rattle.format.specs.Laws.{around}
 use Rattle.format.specs.Tree.{Raw, punct, ident, literal, subtree, treeAt}
 use Rattle.format.specs.Fields.{fields}
 use Rattle.format.specs.Check.{placeOf, listing, treeOf}
+use Rattle.format.specs.Width.{partSize}
 use Rattle.format.specs.Tables.{treeWords, rules, ownTables, countRules, tablesSized, rowEight}
 use Rattle.format.specs.Buffer.{formed, judge, wordShape, rawShape, ownReader, sizeReader, bufferCheck}
 use Rattle.format.specs.Sight.{Alike}
@@ -68,43 +69,43 @@ module _ (b : List ℕ) (k : ℕ) (parts symbols : List ℕ) where
 
   sort-judged : (n p : ℕ) (q : Reply Raw)
       → sortWord (treeOf wordShape (ownReader b k parts symbols) (judge (ownTables parts symbols .words) (rules (ownTables parts symbols)) n p q))
-      ≡ sortOf (treeOf rawShape (sizeReader b k (length parts / 3) (length symbols)) (judge (λ n t. t) (countRules (length parts / 3) (length symbols)) n p q))
+      ≡ sortOf (treeOf rawShape (sizeReader b k (length parts / partSize) (length symbols)) (judge (λ n t. t) (countRules (length parts / partSize) (length symbols)) n p q))
   unfolding judge sortOf
   sort-judged n p (bad r) = refl
   sort-judged n p (got t next kids) = go _ _ _ refl refl refl
     where
-      go : (x y z : Bool) → formed n p next ≡ x → fields t ≡ y → eqb (rowEight (length parts / 3) (length symbols) n t) 0 ≡ z
+      go : (x y z : Bool) → formed n p next ≡ x → fields t ≡ y → eqb (rowEight (length parts / partSize) (length symbols) n t) 0 ≡ z
           → sortWord (treeOf wordShape (ownReader b k parts symbols) (judge (ownTables parts symbols .words) (rules (ownTables parts symbols)) n p (got t next kids)))
-          ≡ sortOf (treeOf rawShape (sizeReader b k (length parts / 3) (length symbols)) (judge (λ n t. t) (countRules (length parts / 3) (length symbols)) n p (got t next kids)))
+          ≡ sortOf (treeOf rawShape (sizeReader b k (length parts / partSize) (length symbols)) (judge (λ n t. t) (countRules (length parts / partSize) (length symbols)) n p (got t next kids)))
       go false y z f g h = simp f
       go true false z f g h = simp (f, g)
       go true true false f g h = simp (f, g, h)
       go true true true f g h = simp (f, g, h) (words-sort t)
 
-  module _ (three : length parts % 3 ≡ 0) where
-    alike : Alike wordShape (ownReader b k parts symbols) rawShape (sizeReader b k (length parts / 3) (length symbols))
+  module _ (w : length parts % partSize ≡ 0) where
+    alike : Alike wordShape (ownReader b k parts symbols) rawShape (sizeReader b k (length parts / partSize) (length symbols))
     unfolding ownReader sizeReader
     alike =
-        let e = eq-eqb (length parts % 3) 0 three in
-        raw-alike b k (ownTables parts symbols) (countRules (length parts / 3) (length symbols)) (own-telling parts symbols) (simp e) (λ n t. refl)
+        let e = eq-eqb (length parts % partSize) 0 w in
+        raw-alike b k (ownTables parts symbols) (countRules (length parts / partSize) (length symbols)) (own-telling parts symbols) (simp e) (λ n t. refl)
 
-    sort-same : (n : ℕ) → sortWord (listing wordShape (ownReader b k parts symbols) .tree n) ≡ sortOf (listing rawShape (sizeReader b k (length parts / 3) (length symbols)) .tree n)
+    sort-same : (n : ℕ) → sortWord (listing wordShape (ownReader b k parts symbols) .tree n) ≡ sortOf (listing rawShape (sizeReader b k (length parts / partSize) (length symbols)) .tree n)
     unfolding ownReader sizeReader
     sort-same n =
-        let p = place-same wordShape (ownReader b k parts symbols) rawShape (sizeReader b k (length parts / 3) (length symbols)) alike n in
+        let p = place-same wordShape (ownReader b k parts symbols) rawShape (sizeReader b k (length parts / partSize) (length symbols)) alike n in
         ap (λ x. sortWord (treeOf wordShape (ownReader b k parts symbols) (ownReader b k parts symbols .read n x))) p
-        ∙ sort-judged n (placeOf rawShape (sizeReader b k (length parts / 3) (length symbols)) n) (treeAt b (placeOf rawShape (sizeReader b k (length parts / 3) (length symbols)) n))
+        ∙ sort-judged n (placeOf rawShape (sizeReader b k (length parts / partSize) (length symbols)) n) (treeAt b (placeOf rawShape (sizeReader b k (length parts / partSize) (length symbols)) n))
 
-    lines-by-sizes : bufferLines b k parts symbols ≡ sizeLines b k (length parts / 3) (length symbols)
+    lines-by-sizes : bufferLines b k parts symbols ≡ sizeLines b k (length parts / partSize) (length symbols)
     unfolding sizeLines
-    lines-by-sizes = lines-same wordShape (ownReader b k parts symbols) rawShape (sizeReader b k (length parts / 3) (length symbols)) alike sortWord sortOf sort-same k 0
+    lines-by-sizes = lines-same wordShape (ownReader b k parts symbols) rawShape (sizeReader b k (length parts / partSize) (length symbols)) alike sortWord sortOf sort-same k 0
 
   -- a table that the check passes has whole parts
-  whole-parts : bufferCheck b k parts symbols ≡ passed → length parts % 3 ≡ 0
+  whole-parts : bufferCheck b k parts symbols ≡ passed → length parts % partSize ≡ 0
   unfolding ownReader
   whole-parts ok =
       let s = own-sound b k parts symbols ok .sized in
-      eqb-true (length parts % 3) 0 (and-left (eqb (length parts % 3) 0) (tablesSized (length parts / 3) (length symbols)) (and-right (leb 1 k && leb k 1048576) _ s))
+      eqb-true (length parts % partSize) 0 (and-left (eqb (length parts % partSize) 0) (tablesSized (length parts / partSize) (length symbols)) (and-right (leb 1 k && leb k 1048576) _ s))
 
 -- ---- the text of a bundle
 
@@ -114,11 +115,11 @@ same-text s s′ k k′ p p′ y y′ e f g h = rw (e, f, g, h)
 module _ (B : Bundle) where
   abbrev lines : List ℕ
   lines =
-      header (B .trees) (length (B .bytes)) (length (B .parts) / 3) (length (B .symbols)) ++ sizeLines (B .bytes) (B .trees) (length (B .parts) / 3) (length (B .symbols))
+      header (B .trees) (length (B .bytes)) (length (B .parts) / partSize) (length (B .symbols)) ++ sizeLines (B .bytes) (B .trees) (length (B .parts) / partSize) (length (B .symbols))
 
   text-of : (v : Verdict) → bufferCheck (B .bytes) (B .trees) (B .parts) (B .symbols) ≡ v → bundleText (bundle B) v ≡ orRefusal v lines
   text-of passed e =
-      ap (λ x. header (B .trees) (length (B .bytes)) (length (B .parts) / 3) (length (B .symbols)) ++ x)
+      ap (λ x. header (B .trees) (length (B .bytes)) (length (B .parts) / partSize) (length (B .symbols)) ++ x)
       (lines-by-sizes (B .bytes) (B .trees) (B .parts) (B .symbols) (whole-parts (B .bytes) (B .trees) (B .parts) (B .symbols) e))
   text-of (refused r n) e = refl
 

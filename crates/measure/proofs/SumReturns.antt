@@ -4,11 +4,14 @@ use mathlib.Core.Path.{_≡_, refl, sym, ap, _∙_, subst}
 use mathlib.Core.List.{List}
 use native.Mathlib.Omega.{arith}
 use lib.ListN.{getD}
+use Rattle.format.specs.Width.{openAt, closeAt}
+use Rattle.format.specs.Part.{spanFrom}
 use Rattle.format.specs.Reader.{Reader, Answer, none, one, refused}
 use Rattle.format.specs.Walk as steps
 use Rattle.format.specs.Walk.{WalkCall, walkStep}
 use Rattle.format.specs.Buffer.{wordShape, ownReader}
 use Rattle.tree.specs.Types.{treeWordsOf}
+use Rattle.tree.specs.Plain.{spanSum}
 use Rattle.tree.specs.declared.refusal.Refusal.{Refusal}
 use Rattle.tree.specs.declared.types.TokenTree.{TokenTree}
 use Rattle.walk.specs.Source.{answerWords}
@@ -19,7 +22,7 @@ use Rattle.walk.specs.declared.walk.Step.{Step}
 use Rattle.measure.specs.Sum.{plus, refusedCode, went, walkSum}
 
 pub added-is : (s : ℕ) (t : TokenTree) (w : List ℕ) → w ≡ treeWordsOf t → (x y z : ℕ) → x ≡ getD w 0 0 + getD w 1 0 + getD w 2 0
-    → y ≡ getD w 3 0 + getD w 4 0 + getD w 5 0 + getD w 6 0 + getD w 7 0 → z ≡ getD w 8 0 + getD w 9 0 + getD w 10 0 + getD w 11 0 + getD w 12 0
+    → y ≡ spanSum (spanFrom (λ j. getD w j 0) openAt) → z ≡ spanSum (spanFrom (λ j. getD w j 0) closeAt)
     → (s % 4294967296 + x + y + z) % 4294967296 ≡ plus s (treeWordsOf t)
 unfolding plus
 added-is s t w e x y z f g h = rw (f, g, h, e)

@@ -5,19 +5,20 @@ use mathlib.Core.List.{List, [], _∷_}
 use lib.Dec.{leb}
 use lib.ListN.{getD}
 use Rattle.format.specs.Test.{if_then_else_}
+use Rattle.format.specs.Width.{openAt, closeAt}
+use Rattle.format.specs.Part.{spanFrom}
 use Rattle.format.specs.Reader.{Reader, Answer, done, none, one, two, refused}
 use Rattle.format.specs.Walk.{Walk, WalkCall, walkStep}
 use Rattle.format.specs.Cursor.{Open, Cursor, tokenTree, bumpOrEnd, cursorStep}
 use Rattle.format.specs.Buffer.{wordShape}
+use Rattle.tree.specs.Plain.{spanSum}
 use Rattle.measure.specs.declared.cursors.Round.{Round}
 
--- the sum and a tree's 13 words
+-- the sum and a tree's words
 unfoldable pub plus : ℕ → List ℕ → ℕ
 plus s w =
-    (s % 4294967296 + (getD w 0 0 + getD w 1 0 + getD w 2 0)
-    + (getD w 3 0 + getD w 4 0 + getD w 5 0 + getD w 6 0 + getD w 7 0)
-    + (getD w 8 0 + getD w 9 0 + getD w 10 0 + getD w 11 0 + getD w 12 0))
-    % 4294967296
+    let v : ℕ → ℕ = λ j. getD w j 0 in
+    (s % 4294967296 + (v 0 + v 1 + v 2) + spanSum (spanFrom v openAt) + spanSum (spanFrom v closeAt)) % 4294967296
 
 -- a refusal by its number
 abbrev pub refusedCode : ℕ → ℕ

@@ -1,21 +1,40 @@
 // The list words of all trees that are handed back, added up: so no part of a tree can be left unread.
 use tree::types::TokenTree;
 use tree::words::tree_words;
+use width::CLOSE_AST;
+use width::CLOSE_CONTEXT;
+use width::CLOSE_FILE;
+use width::CLOSE_LEN;
+use width::CLOSE_START;
+use width::OPEN_AT;
+use width::OPEN_LEN;
+use width::OPEN_START;
 ghost use mathlib.Core.Path.{_≡_};
-ghost use Prim.Native.Nat.{_+_, _<_};
+ghost use Prim.Native.Nat.{_+_, _*_, _<_};
+ghost use Rattle.format.specs.Width.{spanSize, openAt};
+ghost use Rattle.tree.specs.Plain.{spanSum};
 ghost use Rattle.tree.specs.Types.{treeWordsOf};
 ghost use Rattle.measure.specs.Sum.{plus, refusedCode};
 
-fn three(a: u32, b: u32, c: u32) -> u64
-    ensures { λ r. ⌜ (r ≡ a + b + c) × (r < 12884901888) ⌝ }
+const OPEN_FILE: usize = OPEN_AT;
+
+const OPEN_AST: usize = OPEN_AT + 1;
+
+const OPEN_CONTEXT: usize = OPEN_AT + 2;
+
+// The words before the spans.
+fn head_sum(sort: u32, first: u32, second: u32) -> u64
+    ensures { λ r. ⌜ (r ≡ sort + first + second) × (r < openAt * 4294967296) ⌝ }
 {
-    a as u64 + b as u64 + c as u64
+    sort as u64 + first as u64 + second as u64
 }
 
-fn five(a: u32, b: u32, c: u32, d: u32, e: u32) -> u64
-    ensures { λ r. ⌜ (r ≡ a + b + c + d + e) × (r < 21474836480) ⌝ }
+fn span_sum(file: u32, ast: u32, context: u32, start: u32, len: u32) -> u64
+    ensures { λ r. ⌜ (r ≡ spanSum
+        (record { part = record { file = file; ast = ast; context = context }; start = start; len = len }))
+        × (r < spanSize * 4294967296) ⌝ }
 {
-    a as u64 + b as u64 + c as u64 + d as u64 + e as u64
+    file as u64 + ast as u64 + context as u64 + start as u64 + len as u64
 }
 
 // Modulo 2^32, so that a sum fits whatever is added.
@@ -23,9 +42,21 @@ pub(crate) fn added(sum: u64, tree: TokenTree) -> u64
     ensures { λ r. ⌜ (r ≡ plus sum (treeWordsOf tree)) × (r < 4294967296) ⌝ }
 {
     let w = tree_words(tree);
-    let head = three(w[0], w[1], w[2]);
-    let span = five(w[3], w[4], w[5], w[6], w[7]);
-    let closing = five(w[8], w[9], w[10], w[11], w[12]);
+    let head = head_sum(w[0], w[1], w[2]);
+    let span = span_sum(
+        w[OPEN_FILE],
+        w[OPEN_AST],
+        w[OPEN_CONTEXT],
+        w[OPEN_START],
+        w[OPEN_LEN],
+    );
+    let closing = span_sum(
+        w[CLOSE_FILE],
+        w[CLOSE_AST],
+        w[CLOSE_CONTEXT],
+        w[CLOSE_START],
+        w[CLOSE_LEN],
+    );
     (sum % 4294967296 + head + span + closing) % 4294967296
 }
 

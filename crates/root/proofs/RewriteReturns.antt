@@ -9,11 +9,13 @@ use borrow.Author.Tests.{le-leb, lt-leb, leb-true, not-true, not-false}
 use lib.ListN.{length, set}
 use lib.Seq.{sets-eq}
 use Rattle.format.specs.Verdict.{Verdict, passed, refused, rule}
+use Rattle.format.specs.Width.{partSize}
+use Rattle.format.specs.Part.{partWords, indexed}
 use Rattle.format.specs.Word.{byteAt, put}
 use Rattle.format.specs.Span.{Span}
 use Rattle.format.specs.Write.{heavyBytes}
 use Rattle.format.specs.Buffer.{bufferCheck}
-use Rattle.format.specs.Root.{rangeFits, indexed, newKind, newSpans, newParts, spansVerdict}
+use Rattle.format.specs.Root.{rangeFits, newKind, newSpans, newParts, spansVerdict}
 use Rattle.format.proofs.Each.{both, rule-passed, and-left, and-right}
 use Rattle.format.proofs.NewRoot.{root-of, admitted, sizes}
 use Rattle.format.proofs.RootKind.{kind-unchecked, kind-high, kind-fits, kind-refused, kind-stored}
@@ -121,7 +123,7 @@ module _ (b : List ℕ) (k : ℕ) (parts symbols : List ℕ) (o c : types.Span) 
         let w = rule-passed (rangeFits (wordsOf o) && rangeFits (wordsOf c)) 2 0 (v .1) in
         (v .0, and-left (rangeFits (wordsOf o)) (rangeFits (wordsOf c)) w, and-right (rangeFits (wordsOf o)) (rangeFits (wordsOf c)) w)
 
-    pub set-storable : Storable (length b) (length parts / 3) o c
+    pub set-storable : Storable (length b) (length parts / partSize) o c
     set-storable =
         let a = admitted b k parts symbols (parts-of .0) in
         let z = sizes b k parts symbols a in
@@ -133,16 +135,16 @@ module _ (b : List ℕ) (k : ℕ) (parts symbols : List ℕ) (o c : types.Span) 
           closes = leb-true _ _ (parts-of .2);
         }
 
-    pub set-six : 6 ≤ length parts
-    set-six = let z = set-storable .two in omega arith
+    pub set-pair : 2 * partSize ≤ length parts
+    set-pair = let z = set-storable .two in omega arith
 
-    pub set-done : (b′ parts′ : List ℕ) → b′ ≡ newSpans b (length parts / 3) (wordsOf o) (wordsOf c) → parts′ ≡ newParts parts (wordsOf o) (wordsOf c)
+    pub set-done : (b′ parts′ : List ℕ) → b′ ≡ newSpans b (length parts / partSize) (wordsOf o) (wordsOf c) → parts′ ≡ newParts parts (wordsOf o) (wordsOf c)
         → SpansSet b k parts symbols o c r b′ parts′
     set-done b′ parts′ p q′ =
         let s = spans-stored b k parts symbols (wordsOf o) (wordsOf c) judged in
         record { answer = e .answer; contents = p ∙ sym (s .0); table = q′ ∙ sym (s .1) }
 
-pub ruleset set-cases = (set-refused, set-storable, set-six, set-done)
+pub ruleset set-cases = (set-refused, set-storable, set-pair, set-done)
 
 -- ---- stores
 
@@ -160,13 +162,14 @@ spans-put b b₁ b₂ n o c e₁ e₂ = e₂ ∙ rw e₁
 add-two : (n : ℕ) → n + 2 ≡ suc (suc n)
 add-two n = omega arith
 
-pub part-put : (p : List ℕ) (at x y z : ℕ) → at + 3 ≤ length p → set (set (set p at x) (at + 1) y) (at + 2) z ≡ put p at (x ∷ y ∷ z ∷ [])
+pub part-put : (p : List ℕ) (at x y z : ℕ) → at + partSize ≤ length p
+    → set (set (set p at x) (at + 1) y) (at + 2) z ≡ put p at (partWords (record { file = x; ast = y; context = z }))
 unfolding put
 part-put p at x y z h = rw (add-one, add-two) (sets-eq (x ∷ y ∷ z ∷ []) p at h)
 
-pub parts-put : (p p₁ p₂ : List ℕ) (o c : types.Span) → p₁ ≡ put p (length p - 6) (o .file ∷ o .«ast_id» ∷ o .context ∷ [])
-    → p₂ ≡ put p₁ (length p - 6 + 3) (c .file ∷ c .«ast_id» ∷ c .context ∷ []) → 6 ≤ length p → p₂ ≡ newParts p (wordsOf o) (wordsOf c)
+pub parts-put : (p p₁ p₂ : List ℕ) (o c : types.Span) → p₁ ≡ put p (length p - 2 * partSize) (partWords (wordsOf o .part))
+    → p₂ ≡ put p₁ (length p - 2 * partSize + partSize) (partWords (wordsOf c .part)) → 2 * partSize ≤ length p → p₂ ≡ newParts p (wordsOf o) (wordsOf c)
 parts-put p p₁ p₂ o c e₁ e₂ h =
-    put-then p p₁ p₂ (length p - 6) 3 (o .file ∷ o .«ast_id» ∷ o .context ∷ []) (c .file ∷ c .«ast_id» ∷ c .context ∷ []) e₁ e₂ refl (omega arith)
+    put-then p p₁ p₂ (length p - 2 * partSize) partSize (partWords (wordsOf o .part)) (partWords (wordsOf c .part)) e₁ e₂ refl (omega arith)
 
 pub ruleset put-cases = (kind-put, span-put, spans-put, part-put, parts-put)

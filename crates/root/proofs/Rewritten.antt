@@ -26,7 +26,7 @@ module _ (b : List ℕ) (k : ℕ) (parts symbols : List ℕ) (d : ℕ) (r : Answ
     passes : kindVerdict b k parts symbols d ≡ passed
     passes = answer-passed (kindVerdict b k parts symbols d) (sym (s .answer) ∙ q)
 
-    -- word 2 of the root's thirteen is the new kind, all else is read as before
+    -- word 2 of the root is the new kind, all else is read as before
     pub kind-reads : RootOnly (ownReader b k parts symbols) (ownReader b′ k parts symbols) (withKind d (listing wordShape (ownReader b k parts symbols) .tree 0))
     kind-reads =
         subst (λ (x : List ℕ). RootOnly (ownReader b k parts symbols) (ownReader x k parts symbols) (withKind d (listing wordShape (ownReader b k parts symbols) .tree 0)))
@@ -58,7 +58,7 @@ module _ (b : List ℕ) (k : ℕ) (parts symbols : List ℕ) (o c : Span) (r : A
     fits : spansVerdict b k parts symbols (wordsOf o) (wordsOf c) ≡ passed
     fits = answer-passed (spansVerdict b k parts symbols (wordsOf o) (wordsOf c)) (sym (s .answer) ∙ q)
 
-    -- words 3 to 12 of the root's thirteen are the new spans, all else is read as before
+    -- the root's spans are the new ones, all else is read as before
     pub spans-reads : RootOnly (ownReader b k parts symbols) (ownReader b′ k p symbols)
         (withSpans (wordsOf o) (wordsOf c) (listing wordShape (ownReader b k parts symbols) .tree 0))
     spans-reads =

@@ -8,13 +8,15 @@ use pack::unchecked::byte_at;
 use pack::unchecked::put_byte;
 use tree::refusal::Verdict;
 use tree::types::Span;
+use width::PART_WORDS;
 ghost use mathlib.Core.Path.{_≡_};
-ghost use mathlib.Core.List.{[], _∷_};
-ghost use Prim.Native.Nat.{_+_, _≤_, _<_};
+ghost use Prim.Native.Nat.{_+_, _*_, _≤_, _<_};
 ghost use lib.ListN.{length};
+ghost use Rattle.format.specs.Width.{partSize};
+ghost use Rattle.format.specs.Part.{partWords, indexed};
 ghost use Rattle.format.specs.Word.{put};
 ghost use Rattle.format.specs.Write.{heavyBytes};
-ghost use Rattle.format.specs.Root.{rangeFits, indexed, newKind, newSpans, newParts};
+ghost use Rattle.format.specs.Root.{rangeFits, newKind, newSpans, newParts};
 ghost use Rattle.tree.specs.Types.{wordsOf};
 ghost use Rattle.root.specs.Rewrite.{KindSet, Storable, SpansJudged, SpansSet};
 
@@ -22,6 +24,9 @@ ghost use Rattle.root.specs.Rewrite.{KindSet, Storable, SpansJudged, Spa
 const CONTROL: usize = 12;
 
 const CLOSE: usize = 13;
+
+// The words of the last two parts, which are the root's.
+const ROOT_WORDS: usize = 2 * PART_WORDS;
 
 // ---- the kind
 
@@ -82,9 +87,8 @@ fn put_spans(b: &mut [u8], parts: usize, opening: Span, closing: Span)
 }
 
 fn put_part(parts: &mut [u32], at: usize, span: Span)
-    requires { ⌜ at + 3 ≤ length (now parts) ⌝ }
-    ensures { λ _. ⌜ now (parts .exit) ≡
-        put (now (parts .entry)) at (span .file ∷ span .«ast_id» ∷ span .context ∷ []) ⌝ }
+    requires { ⌜ at + partSize ≤ length (now parts) ⌝ }
+    ensures { λ _. ⌜ now (parts .exit) ≡ put (now (parts .entry)) at (partWords (wordsOf span .part)) ⌝ }
 {
     parts[at] = span.file;
     parts[at + 1] = span.ast_id;
@@ -92,12 +96,12 @@ fn put_part(parts: &mut [u32], at: usize, span: Span)
 }
 
 fn put_parts(parts: &mut [u32], opening: Span, closing: Span)
-    requires { ⌜ 6 ≤ length (now parts) ⌝ }
+    requires { ⌜ 2 * partSize ≤ length (now parts) ⌝ }
     ensures { λ _. ⌜ now (parts .exit) ≡ newParts (now (parts .entry)) (wordsOf opening) (wordsOf closing) ⌝ }
 {
-    let at = parts.len() - 6;
+    let at = parts.len() - ROOT_WORDS;
     put_part(parts, at, opening);
-    put_part(parts, at + 3, closing);
+    put_part(parts, at + PART_WORDS, closing);
 }
 
 // The check's refusal, or row 2 of the spans.
@@ -142,7 +146,7 @@ pub fn set_top_subtree_delimiter_span(
     match verdict {
         Verdict::Refused(_) => verdict,
         Verdict::Passed => {
-            put_spans(b, parts.len() / 3, opening, closing);
+            put_spans(b, parts.len() / PART_WORDS, opening, closing);
             put_parts(parts, opening, closing);
             verdict
         }
