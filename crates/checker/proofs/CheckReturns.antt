@@ -14,18 +14,20 @@ use Rattle.format.specs.Check.{placeOf, reading, listing, readRule, check}
 use Rattle.format.specs.Descent.{LeafAt, SubtreeAt, Upto, Unnests, ReadTo, afterSizes}
 use Rattle.format.specs.Sight.{sight}
 use Rattle.format.specs.Width.{partSize}
-use Rattle.format.specs.Tables.{tablesSized}
-use Rattle.format.specs.Buffer.{rawShape, sizeReader, wordShape, ownReader, bufferCheck}
-use Rattle.format.proofs.Each.{and-left}
+use Rattle.format.specs.Tables.{TableRules, rowEight, tablesSized, ownLimits, countRules}
+use Rattle.format.specs.Buffer.{rawShape, rawReader, sizeReader, wordShape, ownReader, bufferCheck}
+use Rattle.format.proofs.Each.{and-left, and-right}
 use Rattle.format.proofs.Sight.{seen-leaf, seen-subtree, seen-unread}
 use Rattle.format.proofs.Descent.{upto-start, upto-more, upto-unread, upto-unnests, upto-leaf, upto-bad, sub-three, sub-four, sub-unread, sub-unnests, sub-honest, sub-wrong, nest-run, nest-flat, nest-short, read-start, read-on, read-bad, read-end, all-unread, left-over, all-unnested, through-left, through-wrong, through-passed, check-unsized, check-sized}
 use Rattle.format.proofs.RawReader.{own-check}
+use Rattle.tree.specs.Mode.{limitsOf}
+use Rattle.tree.specs.declared.limits.Limits.{Limits}
+use Rattle.decode.specs.Judge.{limitRules}
 use Rattle.tree.specs.Refusal.{verdictAnswer}
 use Rattle.tree.specs.declared.refusal.Verdict.{Verdict as Answer}
 use Rattle.tree.specs.declared.refusal.Verdict.the-variants.{Passed, Refused}
 use Rattle.checker.specs.Glance.{glance, readerOf}
 use Rattle.checker.specs.Says.{isSized, earlier, Goes, Stops, RunSays, RootSays, RootStops, Ends}
-use Rattle.checker.specs.declared.glance.Sizes.{Sizes}
 use Rattle.checker.specs.declared.glance.Opening.{Opening}
 use Rattle.checker.specs.declared.glance.Glance.{Glance}
 use Rattle.checker.specs.declared.glance.Glance.the-variants.{Leaf, Subtree, Bad}
@@ -316,33 +318,38 @@ pub ruleset stop-cases = (stop-unread, stop-inside, stop-place, stop-later, stop
 
 -- ---- row 1
 
-module _ (s : Sizes) (t : Bool) (e : t ≡ (leb 1 (s .trees) && leb (s .trees) 1048576)) where
-  pub sized-trees : not t ≡ true → false ≡ isSized s
-  sized-trees h = let q : (leb 1 (s .trees) && leb (s .trees) 1048576) ≡ false = sym e ∙ not-true t h in rw q
+module _ (k p y : ℕ) (t : Bool) (e : t ≡ (leb 1 k && leb k 1048576)) where
+  pub sized-trees : not t ≡ true → false ≡ isSized k p y
+  sized-trees h = let q : (leb 1 k && leb k 1048576) ≡ false = sym e ∙ not-true t h in rw q
 
-  pub sized-counts : not t ≡ false → (r : Bool) → r ≡ tablesSized (s .parts) (s .symbols) → r ≡ isSized s
-  sized-counts h r f = let q : (leb 1 (s .trees) && leb (s .trees) 1048576) ≡ true = sym e ∙ not-false t h in f ∙ rw q
+  pub sized-counts : not t ≡ false → (r : Bool) → r ≡ tablesSized p y → r ≡ isSized k p y
+  sized-counts h r f = let q : (leb 1 k && leb k 1048576) ≡ true = sym e ∙ not-false t h in f ∙ rw q
 
 pub ruleset sized-cases = (sized-trees, sized-counts)
 
 -- ---- check
 
-module _ (b : List ℕ) (k p y : ℕ) (x : Bool) (e : x ≡ isSized (record { trees = k; parts = p; symbols = y })) where
-  abbrev pub stated : Sizes
-  stated = record { trees = k; parts = p; symbols = y }
-
+module _ (b : List ℕ) (k p y : ℕ) (x : Bool) (e : x ≡ isSized k p y) where
   pub check-one : (z : Answer) → not x ≡ true → Says z (refused 1 0) → Says z (check rawShape (sizeReader b k p y))
   unfolding sizeReader
-  check-one z h q = q ∙ ap verdictAnswer (check-unsized rawShape (readerOf b stated) (sym e ∙ not-true x h))
+  check-one z h q = q ∙ ap verdictAnswer (check-unsized rawShape (sizeReader b k p y) (sym e ∙ not-true x h))
 
-  pub check-tree : not x ≡ false → 1 ≤ k
-  check-tree h =
-      let d : isSized stated ≡ true = sym e ∙ not-false x h in
-      leb-true 1 k (and-left (leb 1 k) (leb k 1048576) (and-left (leb 1 k && leb k 1048576) (tablesSized p y) d))
+  module _ (h : not x ≡ false) where
+    silent : isSized k p y ≡ true
+    silent = sym e ∙ not-false x h
 
-  pub check-on : (z : Answer) → not x ≡ false → Says z (afterSizes rawShape (readerOf b stated)) → Says z (check rawShape (sizeReader b k p y))
-  unfolding sizeReader
-  check-on z h q = q ∙ ap verdictAnswer (check-sized rawShape (readerOf b stated) (sym e ∙ not-false x h))
+    pub check-tree : 1 ≤ k
+    check-tree = leb-true 1 k (and-left (leb 1 k) (leb k 1048576) (and-left (leb 1 k && leb k 1048576) (tablesSized p y) silent))
+
+    -- behind row 1 it makes no difference which sizes the tables may have
+    pub check-on : (N : Limits) (z : Answer) → limitsOf N ≡ ownLimits p y → Says z (afterSizes rawShape (readerOf b (record { trees = k; limits = N })))
+        → Says z (check rawShape (sizeReader b k p y))
+    unfolding sizeReader
+    check-on N z f q =
+        let d : tablesSized p y ≡ true = and-right (leb 1 k && leb k 1048576) (tablesSized p y) silent in
+        let g : limitRules (limitsOf N) ≡ countRules p y = λ i. record { sized = sym d i; judged = rowEight (f i) } in
+        q ∙ ap (λ (T : TableRules). verdictAnswer (afterSizes rawShape (rawReader b k T))) g
+        ∙ ap verdictAnswer (check-sized rawShape (sizeReader b k p y) silent)
 
 pub ruleset check-cases = (check-one, check-tree, check-on)
 

@@ -5,7 +5,8 @@ use mathlib.Core.List.{List}
 use native.Mathlib.Omega.{arith}
 use Rattle.format.specs.Reader.{Reply, got}
 use Rattle.format.specs.Tree.{Raw, treeAt}
-use Rattle.format.specs.Tables.{countRules}
+use Rattle.tree.specs.Mode.{limitsOf}
+use Rattle.decode.specs.Judge.{limitRules}
 use Rattle.format.specs.Buffer.{rawShape, judge}
 use Rattle.format.specs.Sight.{Sight, leaf, subtree, unread, sight}
 use Rattle.tree.specs.Raw.{rawOf, rawAnswer}
@@ -48,9 +49,9 @@ module _ (y : RawAt) where
 
 -- ---- glance_at
 
-module _ (b : List ℕ) (s : Sizes) (n at : ℕ) (r : RawRead) (e : r ≡ rawAnswer (judge (λ n t. t) (countRules (s .parts) (s .symbols)) n at (treeAt b at))) where
+module _ (b : List ℕ) (s : Sizes) (n at : ℕ) (r : RawRead) (e : r ≡ rawAnswer (judge (λ n t. t) (limitRules (limitsOf (s .limits))) n at (treeAt b at))) where
   abbrev here : Reply Raw
-  here = judge (λ n t. t) (countRules (s .parts) (s .symbols)) n at (treeAt b at)
+  here = judge (λ n t. t) (limitRules (limitsOf (s .limits))) n at (treeAt b at)
 
   pub at-bad : (k : ℕ) → r ≡ reads.Bad k → Bad k ≡ glanceAt b s n at
   unfolding glance sight

@@ -3,9 +3,10 @@ use Prim.Native.Nat.{ℕ}
 use mathlib.Core.List.{List}
 use Rattle.format.specs.Reader.{Reader}
 use Rattle.format.specs.Tree.{Raw}
-use Rattle.format.specs.Tables.{countRules}
 use Rattle.format.specs.Buffer.{rawShape, rawReader}
 use Rattle.format.specs.Sight.{Sight, leaf, subtree, unread, sight}
+use Rattle.tree.specs.Mode.{limitsOf}
+use Rattle.decode.specs.Judge.{limitRules}
 use Rattle.checker.specs.declared.glance.Sizes.{Sizes}
 use Rattle.checker.specs.declared.glance.Glance.{Glance}
 use Rattle.checker.specs.declared.glance.Glance.the-variants.{Leaf, Subtree, Bad}
@@ -15,9 +16,9 @@ glance (leaf next) = Leaf next
 glance (subtree count kids next) = Subtree (record { count = record { 0 = count }; kids = record { 0 = kids }; next = next })
 glance (unread r) = Bad r
 
--- the buffer with its stated tree count, where of the tables the sizes alone are known: the check asks no entry of them
+-- the buffer with its stated tree count, where only the reach of indices is known: the check asks no table entry
 abbrev pub readerOf : List ℕ → Sizes → Reader Raw
-readerOf b s = rawReader b (s .trees) (countRules (s .parts) (s .symbols))
+readerOf b s = rawReader b (s .trees) (limitRules (limitsOf (s .limits)))
 
 abbrev pub glanceAt : List ℕ → Sizes → ℕ → ℕ → Glance
 glanceAt b s n at = glance (sight rawShape (readerOf b s .read n at))

@@ -10,7 +10,6 @@ use Rattle.format.specs.Tables.{tablesSized}
 use Rattle.format.specs.Check.{placeOf, listing}
 use Rattle.format.specs.Nest.{run, nest}
 use Rattle.format.specs.Descent.{readRun, Upto, Unnests}
-use Rattle.checker.specs.declared.glance.Sizes.{Sizes}
 use Rattle.checker.specs.declared.check.Ran.{Ran}
 use Rattle.checker.specs.declared.check.Ran.the-variants.{Through, Stopped}
 use Rattle.checker.specs.declared.check.Stop.{Stop}
@@ -19,8 +18,8 @@ use Rattle.checker.specs.declared.check.Ending.{Ending}
 use Rattle.checker.specs.declared.check.Ending.the-variants.{End, Unread as Cut}
 
 -- row 1: "Trees: 1 to 1,048,576. Span parts: 2 to 2,097,152. Symbols: 0 to 1,048,576."
-abbrev pub isSized : Sizes → Bool
-isSized s = leb 1 (s .trees) && leb (s .trees) 1048576 && tablesSized (s .parts) (s .symbols)
+abbrev pub isSized : ℕ → ℕ → ℕ → Bool
+isSized trees parts symbols = leb 1 trees && leb trees 1048576 && tablesSized parts symbols
 
 -- the first wrong subtree of two in a row, where trees says that there is none
 abbrev pub earlier : ℕ → ℕ → ℕ → ℕ

@@ -3,6 +3,7 @@ use crate::glance::Glance;
 use crate::glance::Opening;
 use crate::glance::Sizes;
 use crate::glance::glance_at;
+use tree::limits::own_limits;
 use tree::raw::place;
 use tree::refusal::Refusal;
 use tree::refusal::Verdict;
@@ -215,30 +216,38 @@ fn finish(b: &[u8], sizes: Sizes, ran: Ran) -> Verdict
     }
 }
 
-// Row 1, but for part words that are no multiple of 3.
-fn is_sized(sizes: Sizes) -> bool
-    ensures { λ r. ⌜ r ≡ isSized sizes ⌝ }
+// The check behind row 1, which whoever knows the table mode asks.
+pub fn check_in(b: &[u8], sizes: Sizes) -> Verdict
+    requires { ⌜ 1 ≤ sizes .trees ⌝ }
+    ensures { λ r. ⌜ r ≡ verdictAnswer (afterSizes rawShape (readerOf (now (b .entry)) sizes)) ⌝ }
 {
-    if !trees_sized(sizes.trees) {
+    let ran = check_root(b, sizes);
+    finish(b, sizes, ran)
+}
+
+// Row 1, but for part words that are no multiple of 3.
+fn is_sized(trees: u32, parts: usize, symbols: usize) -> bool
+    ensures { λ r. ⌜ r ≡ isSized trees parts symbols ⌝ }
+{
+    if !trees_sized(trees) {
         return false;
     }
-    counts_sized(sizes.parts, sizes.symbols)
+    counts_sized(parts, symbols)
 }
 
 // The check by the sizes of the tables: no entry is looked at.
 pub fn check(b: &[u8], trees: u32, parts: usize, symbols: usize) -> Verdict
     ensures { λ r. ⌜ r ≡ verdictAnswer (checked rawShape (sizeReader (now (b .entry)) trees parts symbols)) ⌝ }
 {
-    let sizes = Sizes {
-        trees: trees,
-        parts: parts,
-        symbols: symbols,
-    };
-    if !is_sized(sizes) {
+    if !is_sized(trees, parts, symbols) {
         return refused(1, 0);
     }
-    let ran = check_root(b, sizes);
-    finish(b, sizes, ran)
+    let limits = own_limits(parts, symbols);
+    let sizes = Sizes {
+        trees: trees,
+        limits: limits,
+    };
+    check_in(b, sizes)
 }
 
 // The check of a buffer with its part words and symbols.

@@ -1,5 +1,6 @@
 // One tree as the check sees it: its sort, where it ends, and a subtree's two counts.
 use decode::judge::tree_at;
+use tree::limits::Limits;
 use tree::raw::ChildrenBytes;
 use tree::raw::Descendants;
 use tree::raw::RawAt;
@@ -12,11 +13,10 @@ ghost use Rattle.format.specs.Sight.{sight};
 ghost use Rattle.tree.specs.Raw.{rawOf};
 ghost use Rattle.checker.specs.Glance.{glance, glanceAt};
 
-// What is known beside the bytes: the stated tree count and the sizes of the two tables.
+// What is known beside the bytes: the stated tree count, and how far indices reach.
 pub struct Sizes {
     pub trees: u32,
-    pub parts: usize,
-    pub symbols: usize,
+    pub limits: Limits,
 }
 
 // What a subtree says of the trees and the bytes below it, and where its own bytes end.
@@ -58,7 +58,8 @@ fn glance_of(here: RawAt) -> Glance
 pub(crate) fn glance_at(b: &[u8], sizes: Sizes, n: u32, at: usize) -> Glance
     ensures { λ r. ⌜ r ≡ glanceAt (now (b .entry)) sizes n at ⌝ }
 {
-    let read = tree_at(b, sizes.parts, sizes.symbols, n, at);
+    let limits = sizes.limits;
+    let read = tree_at(b, limits, n, at);
     match read {
         RawRead::Bad(number) => Glance::Bad(number),
         RawRead::Got(here) => glance_of(here),

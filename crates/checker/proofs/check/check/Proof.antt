@@ -12,22 +12,14 @@ refused-requires c κs = search (needs, check-cases)
 returns : tie.Need-returns
 returns c = search (needs, check-cases)
 
-check-root-requires : tie.Need-check-root-requires
-check-root-requires c κs = search (needs, check-cases)
+own-limits-requires : tie.Need-own-limits-requires
+own-limits-requires c κs = search (needs, check-cases)
 
-finish-requires : tie.Need-finish-requires
-finish-requires c κs = search (needs, check-cases)
+check-in-requires : tie.Need-check-in-requires
+check-in-requires c κs = search (needs, check-cases)
 
 returns-2 : tie.Need-returns-2
 returns-2 c = search (needs, check-cases)
 
 pub check-spec : {M : Type 1} → statement M
-check-spec =
-    tie.close
-    (tie.spec
-    is-sized-requires
-    refused-requires
-    returns
-    check-root-requires
-    finish-requires
-    returns-2)
+check-spec = tie.close (tie.spec is-sized-requires refused-requires returns own-limits-requires check-in-requires returns-2)
