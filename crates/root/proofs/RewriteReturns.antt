@@ -2,7 +2,7 @@
 use Prim.Native.Nat.{ℕ, suc, _+_, _*_, _-_, _/_, _%_, _<_, _≤_}
 use mathlib.Core.Bool.{Bool, true, false, not, _&&_}
 use mathlib.Core.Path.{_≡_, refl, sym, ap, _∙_}
-use mathlib.Core.List.{List, [], _∷_}
+use mathlib.Core.List.{List, [], _∷_, _++_}
 use native.Mathlib.Omega.{arith}
 use native.Mathlib.Numerals.{add-one}
 use borrow.Author.Tests.{le-leb, lt-leb, leb-true, not-true, not-false}
@@ -14,7 +14,9 @@ use Rattle.format.specs.Part.{partWords, indexed}
 use Rattle.format.specs.Word.{byteAt, put}
 use Rattle.format.specs.Span.{Span}
 use Rattle.format.specs.Write.{heavyBytes}
-use Rattle.format.specs.Buffer.{bufferCheck}
+use Rattle.format.specs.Check.{Admitted}
+use Rattle.format.specs.Tables.{ownMode, ownTables}
+use Rattle.format.specs.Buffer.{wordShape, reader, bufferCheck}
 use Rattle.format.specs.Root.{rangeFits, newKind, newSpans, newParts, spansVerdict}
 use Rattle.format.proofs.Each.{both, rule-passed, and-left, and-right}
 use Rattle.format.proofs.NewRoot.{root-of, admitted, sizes}
@@ -42,7 +44,7 @@ module _ (b : List ℕ) (k : ℕ) (parts symbols : List ℕ) (r : Answer) (e : r
     ok = passes b k parts symbols r e q
 
     pub passed-room : 33 ≤ length b
-    passed-room = root-of b k parts symbols (admitted b k parts symbols ok) .stands .room
+    passed-room = root-of b k (ownMode parts symbols) (admitted b k parts symbols ok) .stands .room
 
     -- ---- set_top_subtree_delimiter_kind
 
@@ -123,28 +125,42 @@ module _ (b : List ℕ) (k : ℕ) (parts symbols : List ℕ) (o c : types.Span) 
         let w = rule-passed (rangeFits (wordsOf o) && rangeFits (wordsOf c)) 2 0 (v .1) in
         (v .0, and-left (rangeFits (wordsOf o)) (rangeFits (wordsOf c)) w, and-right (rangeFits (wordsOf o)) (rangeFits (wordsOf c)) w)
 
-    pub set-storable : Storable (length b) (length parts / partSize) o c
+    accepted : Admitted wordShape (reader b k (ownTables parts symbols))
+    accepted = admitted b k parts symbols (parts-of .0)
+
+    abbrev P : ℕ
+    P = length parts / partSize
+
+    pub set-two : 2 ≤ length parts / partSize
+    set-two = sizes b k parts symbols accepted .two
+
+    pub set-index : length parts / partSize - 2 < 4294967296
+    set-index = let z = sizes b k parts symbols accepted .many in omega arith
+
+    pub set-storable : Storable (length b) (length parts / partSize - 2) o c
     set-storable =
-        let a = admitted b k parts symbols (parts-of .0) in
-        let z = sizes b k parts symbols a in
+        let z = sizes b k parts symbols accepted .many in
         record {
-          room = root-of b k parts symbols a .stands .room;
-          two = z .two;
-          many = z .many;
+          room = root-of b k (ownMode parts symbols) accepted .stands .room;
+          index = omega arith;
           opens = leb-true _ _ (parts-of .1);
           closes = leb-true _ _ (parts-of .2);
         }
 
-    pub set-pair : 2 * partSize ≤ length parts
-    set-pair = let z = set-storable .two in omega arith
+    pub set-least : 2 * partSize ≤ length parts
+    set-least = let z = set-two in omega arith
 
-    pub set-done : (b′ parts′ : List ℕ) → b′ ≡ newSpans b (length parts / partSize) (wordsOf o) (wordsOf c) → parts′ ≡ newParts parts (wordsOf o) (wordsOf c)
+    pub set-pair : length parts - 2 * partSize + 2 * partSize ≤ length parts
+    set-pair = let z = set-least in omega arith
+
+    pub set-done : (b′ parts′ : List ℕ) → b′ ≡ newSpans b (length parts / partSize - 2) (wordsOf o) (wordsOf c)
+        → parts′ ≡ put parts (length parts - 2 * partSize) (partWords (wordsOf o .part) ++ partWords (wordsOf c .part))
         → SpansSet b k parts symbols o c r b′ parts′
     set-done b′ parts′ p q′ =
         let s = spans-stored b k parts symbols (wordsOf o) (wordsOf c) judged in
         record { answer = e .answer; contents = p ∙ sym (s .0); table = q′ ∙ sym (s .1) }
 
-pub ruleset set-cases = (set-refused, set-storable, set-pair, set-done)
+pub ruleset set-cases = (set-refused, set-two, set-index, set-storable, set-least, set-pair, set-done)
 
 -- ---- stores
 
@@ -155,8 +171,8 @@ pub span-put : (b : List ℕ) (at i : ℕ) (s : types.Span) (r : Packed) (b′ :
     → SpanPacked b at true 0 (indexed i (wordsOf s)) r b′ → b′ ≡ put b at (heavyBytes 0 (indexed i (wordsOf s)))
 span-put b at i s r b′ h₁ h₂ h₃ p = heavy-contents b at 0 (indexed i (wordsOf s)) r b′ (omega arith) h₁ h₂ p h₃
 
-pub spans-put : (b b₁ b₂ : List ℕ) (n : ℕ) (o c : types.Span) → b₁ ≡ put b 0 (heavyBytes 0 (indexed (n - 2) (wordsOf o)))
-    → b₂ ≡ put b₁ 13 (heavyBytes 0 (indexed (n - 1) (wordsOf c))) → b₂ ≡ newSpans b n (wordsOf o) (wordsOf c)
+pub spans-put : (b b₁ b₂ : List ℕ) (n : ℕ) (o c : types.Span) → b₁ ≡ put b 0 (heavyBytes 0 (indexed n (wordsOf o)))
+    → b₂ ≡ put b₁ 13 (heavyBytes 0 (indexed (n + 1) (wordsOf c))) → b₂ ≡ newSpans b n (wordsOf o) (wordsOf c)
 spans-put b b₁ b₂ n o c e₁ e₂ = e₂ ∙ rw e₁
 
 add-two : (n : ℕ) → n + 2 ≡ suc (suc n)
@@ -167,9 +183,8 @@ pub part-put : (p : List ℕ) (at x y z : ℕ) → at + partSize ≤ length p
 unfolding put
 part-put p at x y z h = rw (add-one, add-two) (sets-eq (x ∷ y ∷ z ∷ []) p at h)
 
-pub parts-put : (p p₁ p₂ : List ℕ) (o c : types.Span) → p₁ ≡ put p (length p - 2 * partSize) (partWords (wordsOf o .part))
-    → p₂ ≡ put p₁ (length p - 2 * partSize + partSize) (partWords (wordsOf c .part)) → 2 * partSize ≤ length p → p₂ ≡ newParts p (wordsOf o) (wordsOf c)
-parts-put p p₁ p₂ o c e₁ e₂ h =
-    put-then p p₁ p₂ (length p - 2 * partSize) partSize (partWords (wordsOf o .part)) (partWords (wordsOf c .part)) e₁ e₂ refl (omega arith)
+pub pair-put : (p p₁ p₂ : List ℕ) (at : ℕ) (o c : types.Span) → p₁ ≡ put p at (partWords (wordsOf o .part))
+    → p₂ ≡ put p₁ (at + partSize) (partWords (wordsOf c .part)) → at + 2 * partSize ≤ length p → p₂ ≡ put p at (partWords (wordsOf o .part) ++ partWords (wordsOf c .part))
+pair-put p p₁ p₂ at o c e₁ e₂ h = put-then p p₁ p₂ at partSize (partWords (wordsOf o .part)) (partWords (wordsOf c .part)) e₁ e₂ refl (omega arith)
 
-pub ruleset put-cases = (kind-put, span-put, spans-put, part-put, parts-put)
+pub ruleset put-cases = (kind-put, span-put, spans-put, part-put, pair-put)

@@ -1,5 +1,5 @@
 -- Answer and contents of root rewriting, for every input.
-use Prim.Native.Nat.{ℕ, _+_, _≤_}
+use Prim.Native.Nat.{ℕ, _+_, _≤_, _<_}
 use mathlib.Core.Path.{_≡_}
 use mathlib.Core.List.{List}
 use Rattle.format.specs.Root.{kindVerdict, kindAfter, spansVerdict, spansAfter, partsAfter}
@@ -23,10 +23,9 @@ pub record SpansSet (b : List ℕ) (k : ℕ) (parts symbols : List ℕ) (opening
   pub contents : b′ ≡ spansAfter b k parts symbols (wordsOf opening) (wordsOf closing)
   pub table : parts′ ≡ partsAfter b k parts symbols (wordsOf opening) (wordsOf closing)
 
--- what the check and row 2 have said before the spans are stored, in a buffer of so many bytes with so many parts
-pub record Storable (bytes parts : ℕ) (opening closing : Span) : Type 0 where
+-- what the check and row 2 have said before the spans are stored, in a buffer of so many bytes with this root index
+pub record Storable (bytes root : ℕ) (opening closing : Span) : Type 0 where
   pub room : 33 ≤ bytes
-  pub two : 2 ≤ parts
-  pub many : parts ≤ 2097152
+  pub index : root + 1 < 268435456
   pub opens : opening .start + opening .len ≤ 4294967295
   pub closes : closing .start + closing .len ≤ 4294967295

@@ -11,12 +11,13 @@ use tree::types::Span;
 use width::PART_WORDS;
 ghost use mathlib.Core.Path.{_≡_};
 ghost use Prim.Native.Nat.{_+_, _*_, _≤_, _<_};
+ghost use mathlib.Core.List.{_++_};
 ghost use lib.ListN.{length};
 ghost use Rattle.format.specs.Width.{partSize};
 ghost use Rattle.format.specs.Part.{partWords, indexed};
 ghost use Rattle.format.specs.Word.{put};
 ghost use Rattle.format.specs.Write.{heavyBytes};
-ghost use Rattle.format.specs.Root.{rangeFits, newKind, newSpans, newParts};
+ghost use Rattle.format.specs.Root.{rangeFits, newKind, newSpans};
 ghost use Rattle.tree.specs.Types.{wordsOf};
 ghost use Rattle.root.specs.Rewrite.{KindSet, Storable, SpansJudged, SpansSet};
 
@@ -77,13 +78,13 @@ fn put_span(b: &mut [u8], at: usize, index: u32, span: Span)
     encode_span_no_map(b, at, packed, 0, true);
 }
 
-// The root's parts are the last two of so many.
-fn put_spans(b: &mut [u8], parts: usize, opening: Span, closing: Span)
-    requires { ⌜ Storable (length (now b)) parts opening closing ⌝ }
-    ensures { λ _. ⌜ now (b .exit) ≡ newSpans (now (b .entry)) parts (wordsOf opening) (wordsOf closing) ⌝ }
+// The root's open part has this index, its close part the next.
+fn put_spans(b: &mut [u8], root: u32, opening: Span, closing: Span)
+    requires { ⌜ Storable (length (now b)) root opening closing ⌝ }
+    ensures { λ _. ⌜ now (b .exit) ≡ newSpans (now (b .entry)) root (wordsOf opening) (wordsOf closing) ⌝ }
 {
-    put_span(b, 0, (parts - 2) as u32, opening);
-    put_span(b, CLOSE, (parts - 1) as u32, closing);
+    put_span(b, 0, root, opening);
+    put_span(b, CLOSE, root + 1, closing);
 }
 
 fn put_part(parts: &mut [u32], at: usize, span: Span)
@@ -95,13 +96,14 @@ fn put_part(parts: &mut [u32], at: usize, span: Span)
     parts[at + 2] = span.context;
 }
 
-fn put_parts(parts: &mut [u32], opening: Span, closing: Span)
-    requires { ⌜ 2 * partSize ≤ length (now parts) ⌝ }
-    ensures { λ _. ⌜ now (parts .exit) ≡ newParts (now (parts .entry)) (wordsOf opening) (wordsOf closing) ⌝ }
+// The root's two parts, from a place of a run on.
+fn put_pair(run: &mut [u32], at: usize, opening: Span, closing: Span)
+    requires { ⌜ at + 2 * partSize ≤ length (now run) ⌝ }
+    ensures { λ _. ⌜ now (run .exit) ≡ put (now (run .entry)) at
+        (partWords (wordsOf opening .part) ++ partWords (wordsOf closing .part)) ⌝ }
 {
-    let at = parts.len() - ROOT_WORDS;
-    put_part(parts, at, opening);
-    put_part(parts, at + PART_WORDS, closing);
+    put_part(run, at, opening);
+    put_part(run, at + PART_WORDS, closing);
 }
 
 // The check's refusal, or row 2 of the spans.
@@ -146,8 +148,8 @@ pub fn set_top_subtree_delimiter_span(
     match verdict {
         Verdict::Refused(_) => verdict,
         Verdict::Passed => {
-            put_spans(b, parts.len() / PART_WORDS, opening, closing);
-            put_parts(parts, opening, closing);
+            put_spans(b, (parts.len() / PART_WORDS - 2) as u32, opening, closing);
+            put_pair(parts, parts.len() - ROOT_WORDS, opening, closing);
             verdict
         }
     }

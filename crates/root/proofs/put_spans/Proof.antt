@@ -3,20 +3,11 @@ use Rattle.root.proofs.RewriteReturns.{put-cases}
 use Rattle.root.proofs.put_spans.Statement.{statement}
 use Rattle.root.proofs.put_spans.Tie as tie
 
-sub-put-span : tie.Need-sub-put-span
-sub-put-span c = search (needs, put-cases)
-
-cast-put-span : tie.Need-cast-put-span
-cast-put-span c = search (needs, put-cases)
-
 put-span-requires : tie.Need-put-span-requires
 put-span-requires c κs = search (needs, put-cases)
 
-sub-put-span-2 : tie.Need-sub-put-span-2
-sub-put-span-2 c = search (needs, put-cases)
-
-cast-put-span-2 : tie.Need-cast-put-span-2
-cast-put-span-2 c = search (needs, put-cases)
+add-put-span : tie.Need-add-put-span
+add-put-span c = search (needs, put-cases)
 
 put-span-requires-2 : tie.Need-put-span-requires-2
 put-span-requires-2 c κs = search (needs, put-cases)
@@ -29,13 +20,4 @@ returns c = search (needs, put-cases)
 
 pub put-spans-spec : {M : Type 1} → statement M
 put-spans-spec =
-    tie.close
-    (tie.spec
-    sub-put-span
-    cast-put-span
-    put-span-requires
-    sub-put-span-2
-    cast-put-span-2
-    put-span-requires-2
-    same-length
-    returns)
+    tie.close (tie.spec put-span-requires add-put-span put-span-requires-2 same-length returns)

@@ -12,11 +12,20 @@ enum-told c = search (needs, set-cases)
 enum-told-2 : tie.Need-enum-told-2
 enum-told-2 c = search (needs, set-cases)
 
+sub-put-spans : tie.Need-sub-put-spans
+sub-put-spans c = search (needs, set-cases)
+
+cast-put-spans : tie.Need-cast-put-spans
+cast-put-spans c = search (needs, set-cases)
+
 put-spans-requires : tie.Need-put-spans-requires
 put-spans-requires c κs = search (needs, set-cases)
 
-put-parts-requires : tie.Need-put-parts-requires
-put-parts-requires c κs = search (needs, set-cases)
+sub-put-pair : tie.Need-sub-put-pair
+sub-put-pair c = search (needs, set-cases)
+
+put-pair-requires : tie.Need-put-pair-requires
+put-pair-requires c κs = search (needs, set-cases)
 
 same-length : tie.Need-same-length
 same-length c = search (needs, set-cases)
@@ -43,8 +52,11 @@ set-top-subtree-delimiter-span-spec =
     spans-verdict-requires
     enum-told
     enum-told-2
+    sub-put-spans
+    cast-put-spans
     put-spans-requires
-    put-parts-requires
+    sub-put-pair
+    put-pair-requires
     same-length
     same-length-2
     returns

@@ -1,10 +1,7 @@
 use borrow.Author.Needs.{needs}
 use Rattle.root.proofs.RewriteReturns.{put-cases}
-use Rattle.root.proofs.put_parts.Statement.{statement}
-use Rattle.root.proofs.put_parts.Tie as tie
-
-sub-at : tie.Need-sub-at
-sub-at c = search (needs, put-cases)
+use Rattle.root.proofs.put_pair.Statement.{statement}
+use Rattle.root.proofs.put_pair.Tie as tie
 
 put-part-requires : tie.Need-put-part-requires
 put-part-requires c κs = search (needs, put-cases)
@@ -21,7 +18,6 @@ same-length c = search (needs, put-cases)
 returns : tie.Need-returns
 returns c = search (needs, put-cases)
 
-pub put-parts-spec : {M : Type 1} → statement M
-put-parts-spec =
-    tie.close
-    (tie.spec sub-at put-part-requires add-put-part put-part-requires-2 same-length returns)
+pub put-pair-spec : {M : Type 1} → statement M
+put-pair-spec =
+    tie.close (tie.spec put-part-requires add-put-part put-part-requires-2 same-length returns)
