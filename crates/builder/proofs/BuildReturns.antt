@@ -10,6 +10,7 @@ use lib.ListN.{length, getD, take, drop}
 use lib.Seq.{length-take-le, take-add, drop-at}
 use Rattle.format.specs.Test.{if_then_else_}
 use Rattle.format.specs.Verdict.{passed, refused}
+use Rattle.format.specs.Width.{treeSize}
 use Rattle.format.specs.WordList.{listCount}
 use Rattle.format.specs.Holding.{holdingAll}
 use Rattle.format.specs.Builder.{subAt, disagrees, ready, oneInside, buildList, innerList, written, build, buildSkipTopSubtree}
@@ -63,16 +64,16 @@ module _ (l : List ℕ) (n : ℕ) where
     inside-leaf k = let q : subAt l 1 ≡ false = sym e ∙ not-true x k in simp (le-leb _ _ h, q)
 
     module _ (k : not x ≡ false) where
-      pub inside-other : (getD l 14 0 ≡ n - 2 → ⊥) → false ≡ oneInside l (stateOf n 0 [])
+      pub inside-other : (getD l (treeSize + 1) 0 ≡ n - 2 → ⊥) → false ≡ oneInside l (stateOf n 0 [])
       inside-other i =
           let q : subAt l 1 ≡ true = sym e ∙ not-false x k in
-          let j = ne-eqb (getD l 14 0) (n - 2) i in
+          let j = ne-eqb (getD l (treeSize + 1) 0) (n - 2) i in
           simp (le-leb _ _ h, q, j)
 
-      pub inside-one : getD l 14 0 ≡ n - 2 → true ≡ oneInside l (stateOf n 0 [])
+      pub inside-one : getD l (treeSize + 1) 0 ≡ n - 2 → true ≡ oneInside l (stateOf n 0 [])
       inside-one i =
           let q : subAt l 1 ≡ true = sym e ∙ not-false x k in
-          let j = eq-eqb (getD l 14 0) (n - 2) i in
+          let j = eq-eqb (getD l (treeSize + 1) 0) (n - 2) i in
           simp (le-leb _ _ h, q, j)
 
 pub ruleset inside-cases = (inside-few, inside-leaf, inside-other, inside-one)
@@ -104,10 +105,10 @@ module _ (b : Builder) (l parts symbols work out : List ℕ) (v : Answer) (e : v
     ready-inside = agree .inRun
 
     module _ (m : ℕ) (c : m ≡ b .count) where
-      pub ready-end : 13 ≤ 13 * m
+      pub ready-end : treeSize ≤ treeSize * m
       ready-end = let a = agree .some in omega arith
 
-      pub ready-room : 13 * m ≤ length l
+      pub ready-room : treeSize * m ≤ length l
       ready-room = let a = agree .inRun in omega arith
 
       module _ (r : Report) (work′ out′ : List ℕ) where
@@ -115,23 +116,23 @@ module _ (b : Builder) (l parts symbols work out : List ℕ) (v : Answer) (e : v
         made : (q : List ℕ) (w : format.Built) → w ≡ written parts symbols work out q → Written parts symbols q work out r work′ out′ → Made w r work′ out′
         made q w f h = rw f (record { answer = h .answer; works = h .works; outs = h .outs })
 
-        of-whole : Written parts symbols (holdingAll (take (13 * m) l)) work out r work′ out′ → Written parts symbols (buildList l (seen b)) work out r work′ out′
+        of-whole : Written parts symbols (holdingAll (take (treeSize * m) l)) work out r work′ out′ → Written parts symbols (buildList l (seen b)) work out r work′ out′
         unfolding buildList
-        of-whole h = subst (λ (i : ℕ). Written parts symbols (holdingAll (take (13 * i) l)) work out r work′ out′) c h
+        of-whole h = subst (λ (i : ℕ). Written parts symbols (holdingAll (take (treeSize * i) l)) work out r work′ out′) c h
 
-        pub build-made : Written parts symbols (holdingAll (take (13 * m) l)) work out r work′ out′ → Built b l parts symbols work out r work′ out′
+        pub build-made : Written parts symbols (holdingAll (take (treeSize * m) l)) work out r work′ out′ → Built b l parts symbols work out r work′ out′
         build-made h = let n = yes in made (buildList l (seen b)) (build parts symbols work out l (seen b)) (rw n) (of-whole h)
 
         module _ (y : Bool) (f : y ≡ oneInside l (stateOf (b .count) 0 [])) where
-          pub skip-inner : y ≡ true → Written parts symbols (drop 13 (take (13 * m) l)) work out r work′ out′ → BuiltSkipping b l parts symbols work out r work′ out′
+          pub skip-inner : y ≡ true → Written parts symbols (drop treeSize (take (treeSize * m) l)) work out r work′ out′ → BuiltSkipping b l parts symbols work out r work′ out′
           unfolding innerList
           skip-inner g h =
               let n = yes in
               let q : oneInside l (seen b) ≡ true = sym f ∙ g in
               made (innerList l (seen b)) (buildSkipTopSubtree parts symbols work out l (seen b)) (simp (n, q))
-              (subst (λ (i : ℕ). Written parts symbols (drop 13 (take (13 * i) l)) work out r work′ out′) c h)
+              (subst (λ (i : ℕ). Written parts symbols (drop treeSize (take (treeSize * i) l)) work out r work′ out′) c h)
 
-          pub skip-whole : y ≡ false → Written parts symbols (holdingAll (take (13 * m) l)) work out r work′ out′ → BuiltSkipping b l parts symbols work out r work′ out′
+          pub skip-whole : y ≡ false → Written parts symbols (holdingAll (take (treeSize * m) l)) work out r work′ out′ → BuiltSkipping b l parts symbols work out r work′ out′
           skip-whole g h =
               let n = yes in
               let q : oneInside l (seen b) ≡ false = sym f ∙ g in
@@ -144,16 +145,16 @@ pub ruleset build-cases = (build-refused, skip-refused, ready-inside, ready-end,
 pub front-length : (l : List ℕ) (end : ℕ) → end ≤ length l → end ≡ length (take end l)
 front-length l end k = sym (length-take-le end l k)
 
-module _ (l : List ℕ) (end : ℕ) (h : 13 ≤ end) (k : end ≤ length l) where
+module _ (l : List ℕ) (end : ℕ) (h : treeSize ≤ end) (k : end ≤ length l) where
   -- a part without the first tree is the front without it
-  part-is : take (end - 13) (drop 13 l) ≡ drop 13 (take end l)
+  part-is : take (end - treeSize) (drop treeSize l) ≡ drop treeSize (take end l)
   part-is =
-      let e : 13 + (end - 13) ≡ end = omega arith in
-      let f : take end l ≡ take 13 l ++ take (end - 13) (drop 13 l) = rw e at (take-add 13 (end - 13) l) in
-      sym (ap (drop 13) f ∙ drop-at (take 13 l) (take (end - 13) (drop 13 l)) 13 (length-take-le 13 l (omega arith)))
+      let e : treeSize + (end - treeSize) ≡ end = omega arith in
+      let f : take end l ≡ take treeSize l ++ take (end - treeSize) (drop treeSize l) = rw e at (take-add treeSize (end - treeSize) l) in
+      sym (ap (drop treeSize) f ∙ drop-at (take treeSize l) (take (end - treeSize) (drop treeSize l)) treeSize (length-take-le treeSize l (omega arith)))
 
-  pub inner-written : (p s work out : List ℕ) (r : Report) (work′ out′ : List ℕ) → Written p s (take (end - 13) (drop 13 l)) work out r work′ out′
-      → Written p s (drop 13 (take end l)) work out r work′ out′
+  pub inner-written : (p s work out : List ℕ) (r : Report) (work′ out′ : List ℕ) → Written p s (take (end - treeSize) (drop treeSize l)) work out r work′ out′
+      → Written p s (drop treeSize (take end l)) work out r work′ out′
   inner-written p s work out r work′ out′ h = subst (λ (q : List ℕ). Written p s q work out r work′ out′) part-is h
 
 pub ruleset front-cases = (front-length, inner-written)

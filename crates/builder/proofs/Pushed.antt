@@ -2,13 +2,16 @@
 use Prim.Native.Nat.{ℕ}
 use mathlib.Core.Bool.{Bool, true, false, not, _&&_}
 use mathlib.Core.Path.{_≡_, refl, sym, ap, _∙_}
-use mathlib.Core.List.{List, [], _∷_}
+use mathlib.Core.List.{List}
 use native.Mathlib.Omega.{arith}
 use lib.Dec.{eqb}
 use lib.ListN.{length, getD}
+use lib.Seq.{take-all}
 use Rattle.format.specs.Test.{if_then_else_}
+use Rattle.format.specs.Width.{treeSize}
 use Rattle.format.specs.WordList.{wordOf, rawFrom, wordFields}
 use Rattle.format.specs.Builder.{wordIn, leafFits, leafWords}
+use Rattle.format.proofs.Trees.{words-at}
 use Rattle.tree.specs.Types.{treeWordsOf}
 use Rattle.tree.specs.Words.{treeFrom, wordsAnswer}
 use Rattle.tree.proofs.WordsAgain.{words-of-tree}
@@ -87,21 +90,7 @@ module _ (w : List ℕ) (r : WordsRead) (e : r ≡ wordsAnswer (wordOf w 0)) whe
 
 pub ruleset words-fit-cases = (words-none, words-leaf, words-subtree)
 
--- ---- what is stored: thirteen words are themselves
+-- ---- what is stored: a tree's words are themselves
 
-pub words-whole : (w : List ℕ) → length w ≡ 13 → leafWords w ≡ w
-words-whole [] e = absurd (omega arith)
-words-whole (x₀ ∷ []) e = absurd (omega arith)
-words-whole (x₀ ∷ x₁ ∷ []) e = absurd (omega arith)
-words-whole (x₀ ∷ x₁ ∷ x₂ ∷ []) e = absurd (omega arith)
-words-whole (x₀ ∷ x₁ ∷ x₂ ∷ x₃ ∷ []) e = absurd (omega arith)
-words-whole (x₀ ∷ x₁ ∷ x₂ ∷ x₃ ∷ x₄ ∷ []) e = absurd (omega arith)
-words-whole (x₀ ∷ x₁ ∷ x₂ ∷ x₃ ∷ x₄ ∷ x₅ ∷ []) e = absurd (omega arith)
-words-whole (x₀ ∷ x₁ ∷ x₂ ∷ x₃ ∷ x₄ ∷ x₅ ∷ x₆ ∷ []) e = absurd (omega arith)
-words-whole (x₀ ∷ x₁ ∷ x₂ ∷ x₃ ∷ x₄ ∷ x₅ ∷ x₆ ∷ x₇ ∷ []) e = absurd (omega arith)
-words-whole (x₀ ∷ x₁ ∷ x₂ ∷ x₃ ∷ x₄ ∷ x₅ ∷ x₆ ∷ x₇ ∷ x₈ ∷ []) e = absurd (omega arith)
-words-whole (x₀ ∷ x₁ ∷ x₂ ∷ x₃ ∷ x₄ ∷ x₅ ∷ x₆ ∷ x₇ ∷ x₈ ∷ x₉ ∷ []) e = absurd (omega arith)
-words-whole (x₀ ∷ x₁ ∷ x₂ ∷ x₃ ∷ x₄ ∷ x₅ ∷ x₆ ∷ x₇ ∷ x₈ ∷ x₉ ∷ x₁₀ ∷ []) e = absurd (omega arith)
-words-whole (x₀ ∷ x₁ ∷ x₂ ∷ x₃ ∷ x₄ ∷ x₅ ∷ x₆ ∷ x₇ ∷ x₈ ∷ x₉ ∷ x₁₀ ∷ x₁₁ ∷ []) e = absurd (omega arith)
-words-whole (x₀ ∷ x₁ ∷ x₂ ∷ x₃ ∷ x₄ ∷ x₅ ∷ x₆ ∷ x₇ ∷ x₈ ∷ x₉ ∷ x₁₀ ∷ x₁₁ ∷ x₁₂ ∷ []) e = refl
-words-whole (x₀ ∷ x₁ ∷ x₂ ∷ x₃ ∷ x₄ ∷ x₅ ∷ x₆ ∷ x₇ ∷ x₈ ∷ x₉ ∷ x₁₀ ∷ x₁₁ ∷ x₁₂ ∷ x₁₃ ∷ w) e = absurd (omega arith)
+pub words-whole : (w : List ℕ) → length w ≡ treeSize → leafWords w ≡ w
+words-whole w e = words-at w 0 (omega arith) ∙ take-all treeSize w (omega arith)

@@ -10,6 +10,7 @@ use lib.Dec.{leb, ltb, eqb}
 use lib.ListN.{length, getD}
 use Rattle.format.specs.Test.{if_then_else_}
 use Rattle.format.specs.Verdict.{Verdict, passed, refused, _andThen_, rule, eachFrom}
+use Rattle.format.specs.Width.{treeSize}
 use Rattle.format.specs.WordList.{listCount}
 use Rattle.format.specs.Builder.{subAt, disagrees, isAmong, openBefore, reachesPast, pointFits, pointVerdict, restorePoint, restoreVerdict, restore}
 use Rattle.format.specs.Builder as format
@@ -92,26 +93,26 @@ module _ (l a : List ℕ) (c d n i at : ℕ) (e : at ≡ i) (x : Bool) (f : x �
   pub past-leaf : not x ≡ true → false ≡ reachesPast l (stateOf c d a) n i
   past-leaf h = let z : subAt l i ≡ false = ap (subAt l) (sym e) ∙ sym f ∙ not-true x h in simp z
 
-  module _ (h : not x ≡ false) (k : ℕ) (g : k ≡ getD l (13 * at + 1) 0) (m : ℕ) (q : m ≡ n) where
+  module _ (h : not x ≡ false) (k : ℕ) (g : k ≡ getD l (treeSize * at + 1) 0) (m : ℕ) (q : m ≡ n) where
     stands : subAt l i ≡ true
     stands = ap (subAt l) (sym e) ∙ sym f ∙ not-false x h
 
-    ends : at + 1 + k ≡ i + 1 + getD l (13 * i + 1) 0
+    ends : at + 1 + k ≡ i + 1 + getD l (treeSize * i + 1) 0
     ends = rw (g, e)
 
     pub past-within : at + 1 + k ≤ m → false ≡ reachesPast l (stateOf c d a) n i
     past-within j =
         let u = ends in
-        let z = le-ltb n (i + 1 + getD l (13 * i + 1) 0) (omega arith) in
+        let z = le-ltb n (i + 1 + getD l (treeSize * i + 1) 0) (omega arith) in
         go (not (isAmong i (numbers a d))) z
       where
-        go : (y : Bool) → ltb n (i + 1 + getD l (13 * i + 1) 0) ≡ false → false ≡ (subAt l i && y && ltb n (i + 1 + getD l (13 * i + 1) 0))
+        go : (y : Bool) → ltb n (i + 1 + getD l (treeSize * i + 1) 0) ≡ false → false ≡ (subAt l i && y && ltb n (i + 1 + getD l (treeSize * i + 1) 0))
         go true z = simp (stands, z)
         go false z = simp (stands, z)
 
     module _ (j : m < at + 1 + k) (y : Bool) (r : y ≡ isAmong i (numbers a d)) where
-      past-end : ltb n (i + 1 + getD l (13 * i + 1) 0) ≡ true
-      past-end = let u = ends in lt-ltb n (i + 1 + getD l (13 * i + 1) 0) (omega arith)
+      past-end : ltb n (i + 1 + getD l (treeSize * i + 1) 0) ≡ true
+      past-end = let u = ends in lt-ltb n (i + 1 + getD l (treeSize * i + 1) 0) (omega arith)
 
       pub past-open : y ≡ true → false ≡ reachesPast l (stateOf c d a) n i
       past-open t = let z : isAmong i (numbers a d) ≡ true = sym r ∙ t in simp (stands, past-end, z)

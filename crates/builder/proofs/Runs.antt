@@ -5,6 +5,7 @@ use mathlib.Core.Path.{_≡_, refl, sym, ap, _∙_, subst}
 use mathlib.Core.List.{List, [], _∷_}
 use lib.ListN.{length, take}
 use Rattle.format.specs.Verdict.{Verdict, passed, refused, contents}
+use Rattle.format.specs.Width.{treeSize}
 use Rattle.format.specs.Builder.{disagrees, noBuilder, newBuilder, newVerdict, new, pointVerdict, restorePoint, Step, restore, builderStep, builderRun, staysInside, builderFrom}
 use Rattle.format.specs.Builder as format
 use Rattle.format.specs.Frames.{accepted}
@@ -83,7 +84,7 @@ pub record Back (b : Builder) (m m₂ : List ℕ) (r : Stepped) (m₃ : List ℕ
   pub builder : seen (r .builder) ≡ seen b
   pub depth : r .builder .depth ≡ b .depth
   pub words : m₃ ≡ m₂
-  pub before : take (13 * b .count) m₂ ≡ take (13 * b .count) m
+  pub before : take (treeSize * b .count) m₂ ≡ take (treeSize * b .count) m
 
 module _ (kind : ℕ) (o c : Span) (l : List ℕ) (r₀ : Stepped) (l₀ : List ℕ) (begun : Begun kind o c l r₀ l₀) where
   begins : Same (r₀ .builder) l₀ (new kind (wordsOf o) (wordsOf c) l)
@@ -161,5 +162,5 @@ module _ (kind : ℕ) (o c : Span) (l : List ℕ) (r₀ : Stepped) (l₀ : List 
           builder = e;
           depth = sym (numbers-length (r .builder .opened) (r .builder .depth)) ∙ ap (λ (z : format.Builder). length (z .opened)) e ∙ d;
           words = t .words ∙ ap (λ (q : format.Point). builderStep (restore q) (seen b₂) m₂ .words) (sym p) ∙ R .words;
-          before = subst (λ (q : format.Point). take (13 * q .trees) m₂ ≡ take (13 * q .trees) m) p (R .before);
+          before = subst (λ (q : format.Point). take (treeSize * q .trees) m₂ ≡ take (treeSize * q .trees) m) p (R .before);
         }

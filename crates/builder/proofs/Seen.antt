@@ -11,7 +11,7 @@ use lib.ListN.{length, getD, set, length-set}
 use lib.Seq.{getD-set-same, getD-set-other}
 use Rattle.format.specs.Test.{if_then_else_}
 use Rattle.format.specs.Verdict.{Verdict, passed, refused, _andThen_, contents, rule, eachFrom}
-use Rattle.format.specs.Root.{WordSpan}
+use Rattle.format.specs.Part.{WordSpan}
 use Rattle.format.specs.Builder.{openFit, subAt, disagrees, reachesPast, butLast, openBefore, pointFits, openVerdict, restoreVerdict, restored, Step, push, openSubtree, closeSubtree, restore, stepVerdict, stepBuilder, stepWords, builderStep}
 use Rattle.format.specs.Builder as format
 use Rattle.format.proofs.Each.{and₄, both, rule-passed}

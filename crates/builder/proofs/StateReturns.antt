@@ -8,6 +8,7 @@ use native.Mathlib.Nat.{add-zero}
 use borrow.Author.Tests.{le-leb, lt-leb, le-ltb, lt-ltb, eq-eqb, ne-eqb, ltb-true, not-true, not-false}
 use lib.Dec.{leb, ltb, eqb}
 use lib.ListN.{length, getD}
+use Rattle.format.specs.Width.{treeSize}
 use Rattle.format.specs.WordList.{listCount}
 use Rattle.format.specs.Builder.{subAt, openFit, disagrees}
 use Rattle.format.proofs.Each.{and-left, and-right}
@@ -17,10 +18,10 @@ use Rattle.builder.proofs.Numbers.{numbers-length, numbers-down}
 -- ---- is_subtree
 
 module _ (l : List ℕ) (n : ℕ) where
-  pub not-subtree : (getD l (13 * n) 0 ≡ 3 → ⊥) → false ≡ subAt l n
+  pub not-subtree : (getD l (treeSize * n) 0 ≡ 3 → ⊥) → false ≡ subAt l n
   not-subtree h = let e = ne-eqb _ _ h in simp (add-zero, e)
 
-  pub a-subtree : getD l (13 * n) 0 ≡ 3 → true ≡ subAt l n
+  pub a-subtree : getD l (treeSize * n) 0 ≡ 3 → true ≡ subAt l n
   a-subtree h = let e = eq-eqb _ _ h in simp (add-zero, e)
 
 -- ---- is_open_under
@@ -89,11 +90,11 @@ module _ (l a : List ℕ) (n d : ℕ) where
     many-10 h = simp (ne-eqb _ _ h₀, lt-ltb _ _ h)
 
     module _ (h₁ : n ≤ 1048576) (m : ℕ) (e : m ≡ n) where
-      pub run-10 : length l / 13 < m → true ≡ disagrees l (stateOf n d a)
+      pub run-10 : length l / treeSize < m → true ≡ disagrees l (stateOf n d a)
       unfolding disagrees
       run-10 h = let k : listCount l < n = omega arith in simp (ne-eqb _ _ h₀, le-ltb _ _ h₁, lt-ltb _ _ k)
 
-      module _ (h₂ : m ≤ length l / 13) where
+      module _ (h₂ : m ≤ length l / treeSize) where
         within : ltb (listCount l) n ≡ false
         within = le-ltb (listCount l) n (omega arith)
 

@@ -8,8 +8,10 @@ use borrow.Author.Tests.{le-leb, lt-leb, le-ltb, lt-ltb, not-true, not-false}
 use lib.Dec.{leb, ltb}
 use lib.ListN.{length}
 use Rattle.format.specs.Verdict.{Verdict, passed, refused, _andThen_, rule}
+use Rattle.format.specs.Width.{treeSize}
 use Rattle.format.specs.WordList.{listCount}
-use Rattle.format.specs.Root.{WordSpan, rangeFits}
+use Rattle.format.specs.Part.{WordSpan}
+use Rattle.format.specs.Root.{rangeFits}
 use Rattle.format.specs.Builder.{Builder, leafFits, disagrees, newVerdict, room, pushVerdict, openVerdict, closeVerdict}
 use Rattle.tree.specs.Refusal.{verdictAnswer}
 use Rattle.tree.specs.declared.refusal.Verdict.{Verdict as Answer}
@@ -36,11 +38,11 @@ module _ (l a : List ℕ) (n d : ℕ) (z : Answer) where
   room-1 h e = same z _ _ e (simp (le-ltb _ _ h))
 
   module _ (h : n < 1048576) (m : ℕ) (f : m ≡ n) where
-    pub room-6 : length l / 13 ≤ m → z ≡ verdictAnswer (refused 6 n) → z ≡ verdictAnswer (room l (stateOf n d a))
+    pub room-6 : length l / treeSize ≤ m → z ≡ verdictAnswer (refused 6 n) → z ≡ verdictAnswer (room l (stateOf n d a))
     room-6 k e = let g = le-ltb n (listCount l) (omega arith) in same z _ _ e (simp (lt-ltb _ _ h, g))
 
 module _ (l a : List ℕ) (n d : ℕ) where
-  pub room-ok : n < 1048576 → (m : ℕ) → m ≡ n → m < length l / 13 → Passed ≡ verdictAnswer (room l (stateOf n d a))
+  pub room-ok : n < 1048576 → (m : ℕ) → m ≡ n → m < length l / treeSize → Passed ≡ verdictAnswer (room l (stateOf n d a))
   room-ok h m f k = let g = lt-ltb n (listCount l) (omega arith) in passed-is _ (simp (lt-ltb _ _ h, g))
 
 -- ---- push_verdict, open_verdict, close_verdict
@@ -123,11 +125,11 @@ module _ (kind : ℕ) (o c : WordSpan) (l : List ℕ) (z : Answer) where
       pub new-close : not y ≡ true → z ≡ verdictAnswer (refused 2 0) → z ≡ verdictAnswer (newVerdict kind o c l)
       new-close j f = let q : rangeFits c ≡ false = sym g ∙ not-true y j in same z _ _ f (simp (le-leb _ _ h, opens, q))
 
-      pub new-6 : not y ≡ false → length l / 13 < 1 → z ≡ verdictAnswer (refused 6 0) → z ≡ verdictAnswer (newVerdict kind o c l)
+      pub new-6 : not y ≡ false → length l / treeSize < 1 → z ≡ verdictAnswer (refused 6 0) → z ≡ verdictAnswer (newVerdict kind o c l)
       new-6 j k f = let q : rangeFits c ≡ true = sym g ∙ not-false y j in same z _ _ f (simp (le-leb _ _ h, opens, q, lt-leb _ _ k))
 
 pub new-ok : (kind : ℕ) (o c : WordSpan) (l : List ℕ) → kind ≤ 3 → (x : Bool) → x ≡ rangeFits o → not x ≡ false → (y : Bool) → y ≡ rangeFits c → not y ≡ false
-    → 1 ≤ length l / 13 → Passed ≡ verdictAnswer (newVerdict kind o c l)
+    → 1 ≤ length l / treeSize → Passed ≡ verdictAnswer (newVerdict kind o c l)
 new-ok kind o c l h x e i y g j k =
     let p : rangeFits o ≡ true = sym e ∙ not-false x i in
     let q : rangeFits c ≡ true = sym g ∙ not-false y j in

@@ -7,8 +7,9 @@ use native.Mathlib.Numerals.{add-one}
 use lib.ListN.{length, getD, set, take, length-set}
 use lib.Seq.{take-suc, take-all, length-take-le}
 use Rattle.format.specs.Word.{put}
+use Rattle.format.specs.Width.{spanSize, closeAt, treeSize}
+use Rattle.format.specs.Part.{WordSpan, spanList}
 use Rattle.format.specs.WordList.{listCount}
-use Rattle.format.specs.Root.{WordSpan, fiveWords}
 use Rattle.format.proofs.Kept.{kept}
 use Rattle.pack.proofs.Store.{store-1, put-put, put-none}
 use Rattle.builder.specs.State.{closedAt}
@@ -39,14 +40,14 @@ pub ruleset put-cases = (put-first, put-next, put-all, set-kept)
 -- ---- close_tree
 
 module _ (l : List ℕ) (m n : ℕ) (h : m < listCount l) where
-  pub close-one : 13 * m + 1 + 1 ≤ length l
+  pub close-one : treeSize * m + 1 + 1 ≤ length l
   close-one = omega arith
 
-  module _ (l₁ : List ℕ) (e : l₁ ≡ put l (13 * m + 1) (n ∷ [])) where
-    pub close-five : length l₁ ≡ length l → 13 * m + 8 + 5 ≤ length l₁
-    close-five k = omega arith
+  module _ (l₁ : List ℕ) (e : l₁ ≡ put l (treeSize * m + 1) (n ∷ [])) where
+    pub close-room : length l₁ ≡ length l → treeSize * m + closeAt + spanSize ≤ length l₁
+    close-room k = omega arith
 
-    pub close-put : (s : WordSpan) (l₂ : List ℕ) → l₂ ≡ put l₁ (13 * m + 8) (fiveWords s) → l₂ ≡ closedAt l m n s
+    pub close-put : (s : WordSpan) (l₂ : List ℕ) → l₂ ≡ put l₁ (treeSize * m + closeAt) (spanList s) → l₂ ≡ closedAt l m n s
     close-put s l₂ f = f ∙ rw e
 
-pub ruleset close-cases = (close-one, close-five, close-put, kept)
+pub ruleset close-cases = (close-one, close-room, close-put, kept)

@@ -9,8 +9,10 @@ use lib.Dec.{leb, ltb}
 use lib.ListN.{length, getD, set}
 use Rattle.format.specs.Verdict.{Verdict, passed, refused, _andThen_, contents, rule}
 use Rattle.format.specs.Word.{put}
+use Rattle.format.specs.Width.{treeSize}
 use Rattle.format.specs.WordList.{listCount}
-use Rattle.format.specs.Root.{WordSpan, rangeFits}
+use Rattle.format.specs.Part.{WordSpan}
+use Rattle.format.specs.Root.{rangeFits}
 use Rattle.format.specs.Builder.{subtreeWords, leafFits, disagrees, newVerdict, new, agreed, room, pushVerdict, openVerdict, closeVerdict, closeLast, Step, push, openSubtree, closeSubtree, stepVerdict, stepWords, builderStep}
 use Rattle.format.specs.Builder as format
 use Rattle.format.proofs.Each.{both, rule-passed}
@@ -53,7 +55,7 @@ module _ (kind : ℕ) (o c : Span) (l : List ℕ) (v : Answer) (e : v ≡ verdic
     ok : N ≡ passed
     ok = answer-passed N (sym e ∙ h)
 
-    pub new-room : (ws : List ℕ) → length ws ≡ 13 → 0 + length ws ≤ length l
+    pub new-room : (ws : List ℕ) → length ws ≡ treeSize → 0 + length ws ≤ length l
     new-room ws k =
         let r = both (rule (leb kind 3 && rangeFits (wordsOf o) && rangeFits (wordsOf c)) 2 0) (rule (leb 1 (listCount l)) 6 0) ok in
         let z : 1 ≤ listCount l = leb-true _ _ (rule-passed (leb 1 (listCount l)) 6 0 (r .1)) in
@@ -119,13 +121,13 @@ module _ (b : Builder) (l w : List ℕ) (v : Answer) (e : v ≡ verdictAnswer (p
     then : (rule (leafFits w) 2 (b .count) ≡ passed) × (room l (seen b) ≡ passed)
     then = both (rule (leafFits w) 2 (b .count)) (room l (seen b)) (said .1)
 
-    pub push-room : length w ≡ 13 → (m : ℕ) → m ≡ b .count → 13 * m + length w ≤ length l
+    pub push-room : length w ≡ treeSize → (m : ℕ) → m ≡ b .count → treeSize * m + length w ≤ length l
     push-room k m f = let z = roomy l (seen b) (then .1) .inRun in omega arith
 
     pub push-small : b .count + 1 < 4294967296
     push-small = let z = roomy l (seen b) (then .1) .many in omega arith
 
-    pub push-done : length w ≡ 13 → (m : ℕ) → m ≡ b .count → (l′ : List ℕ) → l′ ≡ put l (13 * m) w
+    pub push-done : length w ≡ treeSize → (m : ℕ) → m ≡ b .count → (l′ : List ℕ) → l′ ≡ put l (treeSize * m) w
         → Taken (push w) b l (record { verdict = v; builder = record { count = b .count + 1; depth = b .depth; opened = b .opened } }) l′
     unfolding after
     push-done g m f l′ k =
@@ -166,7 +168,7 @@ module _ (b : Builder) (l : List ℕ) (kind : ℕ) (s : Span) (v : Answer) (e : 
     opens : Roomy l (b .count)
     opens = roomy l (seen b) (told l (seen b) kind (wordsOf s) open-ok .1)
 
-    pub open-room : (ws : List ℕ) → length ws ≡ 13 → (m : ℕ) → m ≡ b .count → 13 * m + length ws ≤ length l
+    pub open-room : (ws : List ℕ) → length ws ≡ treeSize → (m : ℕ) → m ≡ b .count → treeSize * m + length ws ≤ length l
     open-room ws k m f = let z = opens .inRun in omega arith
 
     pub open-small : b .count + 1 < 4294967296
@@ -184,7 +186,7 @@ module _ (b : Builder) (l : List ℕ) (kind : ℕ) (s : Span) (v : Answer) (e : 
     pub open-deeper : b .depth + 1 < 18446744073709551616
     open-deeper = let z = open-shallow in omega arith
 
-    pub open-done : (ws : List ℕ) → ws ≡ subtreeWords 0 kind (wordsOf s) (wordsOf s) → (m : ℕ) → m ≡ b .count → (l′ : List ℕ) → l′ ≡ put l (13 * m) ws
+    pub open-done : (ws : List ℕ) → ws ≡ subtreeWords 0 kind (wordsOf s) (wordsOf s) → (m : ℕ) → m ≡ b .count → (l′ : List ℕ) → l′ ≡ put l (treeSize * m) ws
         → Taken (openSubtree kind (wordsOf s)) b l
         (record { verdict = v; builder = record { count = b .count + 1; depth = b .depth + 1; opened = set (b .opened) (b .depth) (b .count) } }) l′
     unfolding after

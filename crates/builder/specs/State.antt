@@ -3,7 +3,8 @@ use Prim.Native.Nat.{ℕ, zero, suc, _+_, _*_}
 use mathlib.Core.List.{List, [], _∷_}
 use lib.ListN.{getD}
 use Rattle.format.specs.Word.{put}
-use Rattle.format.specs.Root.{WordSpan, fiveWords}
+use Rattle.format.specs.Width.{closeAt, treeSize}
+use Rattle.format.specs.Part.{WordSpan, spanList}
 use Rattle.format.specs.Builder as format
 use Rattle.builder.specs.declared.state.Builder.{Builder}
 
@@ -20,4 +21,4 @@ seen b = stateOf (b .count) (b .depth) (b .opened)
 
 -- tree m with n descendants and a close span
 abbrev pub closedAt : List ℕ → ℕ → ℕ → WordSpan → List ℕ
-closedAt l m n s = put (put l (13 * m + 1) (n ∷ [])) (13 * m + 8) (fiveWords s)
+closedAt l m n s = put (put l (treeSize * m + 1) (n ∷ [])) (treeSize * m + closeAt) (spanList s)

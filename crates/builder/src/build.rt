@@ -6,12 +6,14 @@ use crate::steps::refused;
 use tree::raw::place;
 use tree::refusal::Report;
 use tree::refusal::Verdict;
+use width::TREE_WORDS;
 use writer::write::encode_holding;
 use writer::write::encode_list;
 ghost use mathlib.Core.Path.{_≡_};
 ghost use mathlib.Core.List.{[]};
 ghost use Prim.Native.Nat.{_≤_};
 ghost use lib.ListN.{length, take, drop};
+ghost use Rattle.format.specs.Width.{treeSize};
 ghost use Rattle.format.specs.Holding.{holdingAll};
 ghost use Rattle.format.specs.WordList.{listCount};
 ghost use Rattle.format.specs.Builder.{ready, oneInside};
@@ -19,6 +21,9 @@ ghost use Rattle.tree.specs.Refusal.{verdictAnswer};
 ghost use Rattle.writer.specs.Written.{Written};
 ghost use Rattle.builder.specs.State.{stateOf};
 ghost use Rattle.builder.specs.Building.{Built, BuiltSkipping};
+
+// Where the descendant count of tree 1 stands.
+const ONE_COUNT: usize = TREE_WORDS + 1;
 
 fn ready_verdict(list: &[u32], count: u32, depth: usize, opened: &[u32; 256]) -> Verdict
     ensures { λ r. ⌜ r ≡ verdictAnswer
@@ -44,7 +49,7 @@ fn one_inside(list: &[u32], count: u32) -> bool
     if !is_subtree(list, 1) {
         return false;
     }
-    if list[14] != count - 2 {
+    if list[ONE_COUNT] != count - 2 {
         return false;
     }
     true
@@ -75,11 +80,11 @@ fn write_inner(
     work: &mut [u32],
     out: &mut [u8],
 ) -> Report
-    requires { ⌜ (13 ≤ end) × (end ≤ length (now list)) ⌝ }
-    ensures { λ r. ⌜ Written (now (parts .entry)) (now (symbols .entry)) (drop 13 (take end (now (list .entry))))
+    requires { ⌜ (treeSize ≤ end) × (end ≤ length (now list)) ⌝ }
+    ensures { λ r. ⌜ Written (now (parts .entry)) (now (symbols .entry)) (drop treeSize (take end (now (list .entry))))
         (now (work .entry)) (now (out .entry)) r (now (work .exit)) (now (out .exit)) ⌝ }
 {
-    encode_list(&list[13..end], parts, symbols, work, out)
+    encode_list(&list[TREE_WORDS..end], parts, symbols, work, out)
 }
 
 impl Builder {
@@ -99,7 +104,7 @@ impl Builder {
         match verdict {
             Verdict::Refused(at) => Report::Refused(at),
             Verdict::Passed => {
-                let end = 13 * place(self.count);
+                let end = TREE_WORDS * place(self.count);
                 write_holding(list, end, parts, symbols, work, out)
             }
         }
@@ -121,7 +126,7 @@ impl Builder {
         match verdict {
             Verdict::Refused(at) => Report::Refused(at),
             Verdict::Passed => {
-                let end = 13 * place(self.count);
+                let end = TREE_WORDS * place(self.count);
                 if one_inside(list, self.count) {
                     return write_inner(list, end, parts, symbols, work, out);
                 }

@@ -10,6 +10,8 @@ use tree::types::TokenTree;
 use tree::words::WordsRead;
 use tree::words::tree_from_words;
 use tree::words::tree_words;
+use tree::words::words_of;
+use width::TREE_WORDS;
 ghost use mathlib.Core.Path.{_≡_};
 ghost use Rattle.format.specs.Root.{rangeFits};
 ghost use Rattle.format.specs.Builder.{leafFits, subtreeWords};
@@ -64,7 +66,7 @@ pub(crate) fn leaf_fits(leaf: Leaf) -> bool
 }
 
 // Whether words say a leaf.
-pub(crate) fn words_fit(words: &[u32; 13]) -> bool
+pub(crate) fn words_fit(words: &[u32; TREE_WORDS]) -> bool
     ensures { λ r. ⌜ r ≡ leafFits (now (words .entry)) ⌝ }
 {
     match tree_from_words(words) {
@@ -77,32 +79,20 @@ pub(crate) fn words_fit(words: &[u32; 13]) -> bool
 }
 
 // The words of a leaf; those of no tree where it is out of range, since it may have no place in words.
-pub(crate) fn leaf_words(leaf: Leaf) -> [u32; 13]
+pub(crate) fn leaf_words(leaf: Leaf) -> [u32; TREE_WORDS]
     ensures { λ r. ⌜ r ≡ pushed leaf ⌝ }
 {
     if !leaf_fits(leaf) {
-        return [4, 0, 0, 0, 0, 0, 0, 0, 0, 0, 0, 0, 0];
+        let mut none = [0u32; TREE_WORDS];
+        none[0] = 4;
+        return none;
     }
     tree_words(TokenTree::Leaf(leaf))
 }
 
 // The words of a subtree that holds nothing yet.
-pub(crate) fn subtree_words(kind: u32, opening: Span, closing: Span) -> [u32; 13]
+pub(crate) fn subtree_words(kind: u32, opening: Span, closing: Span) -> [u32; TREE_WORDS]
     ensures { λ r. ⌜ r ≡ subtreeWords 0 kind (wordsOf opening) (wordsOf closing) ⌝ }
 {
-    [
-        3,
-        0,
-        kind,
-        opening.file,
-        opening.ast_id,
-        opening.context,
-        opening.start,
-        opening.len,
-        closing.file,
-        closing.ast_id,
-        closing.context,
-        closing.start,
-        closing.len,
-    ]
+    words_of(3, 0, kind, opening, closing)
 }

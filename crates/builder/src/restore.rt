@@ -8,6 +8,7 @@ use crate::steps::refused;
 use tree::raw::place;
 use tree::refusal::Refusal;
 use tree::refusal::Verdict;
+use width::TREE_WORDS;
 ghost use mathlib.Core.Path.{_≡_};
 ghost use Prim.Native.Nat.{_+_, _*_, _≤_, _<_};
 ghost use lib.Dec.{ltb};
@@ -74,7 +75,7 @@ fn reaches_past(list: &[u32], count: u32, depth: usize, opened: &[u32; 256], n: 
     if !is_subtree(list, at) {
         return false;
     }
-    if at + 1 + place(list[13 * at + 1]) <= place(n) {
+    if at + 1 + place(list[TREE_WORDS * at + 1]) <= place(n) {
         return false;
     }
     // An open one has count 0 stored and comes so far only in an altered run.

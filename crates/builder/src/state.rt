@@ -2,6 +2,7 @@
 use crate::sort::is_subtree;
 use tree::raw::place;
 use tree::refusal::Verdict;
+use width::TREE_WORDS;
 ghost use mathlib.Core.Path.{_≡_};
 ghost use mathlib.Core.Bool.{_&&_};
 ghost use Prim.Native.Nat.{_≤_, _<_};
@@ -72,7 +73,7 @@ pub(crate) fn disagrees(list: &[u32], count: u32, depth: usize, opened: &[u32; 2
     if 1048576 < count {
         return true;
     }
-    if list.len() / 13 < place(count) {
+    if list.len() / TREE_WORDS < place(count) {
         return true;
     }
     if MOST_OPEN < depth {

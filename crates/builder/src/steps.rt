@@ -14,6 +14,7 @@ use tree::refusal::Refusal;
 use tree::refusal::Verdict;
 use tree::types::Leaf;
 use tree::types::Span;
+use width::TREE_WORDS;
 ghost use mathlib.Core.Path.{_≡_};
 ghost use Prim.Native.Nat.{_<_};
 ghost use Rattle.format.specs.Verdict.{refused};
@@ -42,7 +43,7 @@ fn room_verdict(list: &[u32], count: u32, depth: usize, opened: &[u32; 256]) -> 
     if 1048576 <= count {
         return refused(1, count);
     }
-    if list.len() / 13 <= place(count) {
+    if list.len() / TREE_WORDS <= place(count) {
         return refused(6, count);
     }
     Verdict::Passed
@@ -53,7 +54,7 @@ fn push_verdict(
     count: u32,
     depth: usize,
     opened: &[u32; 256],
-    words: &[u32; 13],
+    words: &[u32; TREE_WORDS],
 ) -> Verdict
     ensures { λ r. ⌜ r ≡ verdictAnswer
         (pushVerdict (now (list .entry)) (stateOf count depth (now (opened .entry))) (now (words .entry))) ⌝ }
@@ -122,7 +123,7 @@ fn new_verdict(list: &[u32], kind: u32, opening: Span, closing: Span) -> Verdict
     if !span_fits(closing) {
         return refused(2, 0);
     }
-    if list.len() / 13 < 1 {
+    if list.len() / TREE_WORDS < 1 {
         return refused(6, 0);
     }
     Verdict::Passed
@@ -169,7 +170,7 @@ impl Builder {
     }
 
     // A leaf by its list words, of which row 2 is asked as they are.
-    pub fn push_words(mut self, list: &mut [u32], words: &[u32; 13]) -> Stepped
+    pub fn push_words(mut self, list: &mut [u32], words: &[u32; TREE_WORDS]) -> Stepped
         ensures { λ r. ⌜ Taken (push (now (words .entry))) self (now (list .entry)) r (now (list .exit)) ⌝ }
     {
         let verdict = push_verdict(list, self.count, self.depth, &self.opened, words);
@@ -179,7 +180,7 @@ impl Builder {
                 builder: self,
             },
             Verdict::Passed => {
-                put_words(list, 13 * place(self.count), words);
+                put_words(list, TREE_WORDS * place(self.count), words);
                 self.count = self.count + 1;
                 Stepped {
                     verdict: verdict,
@@ -203,7 +204,7 @@ impl Builder {
             },
             Verdict::Passed => {
                 let words = subtree_words(kind, opening, opening);
-                put_words(list, 13 * place(count), &words);
+                put_words(list, TREE_WORDS * place(count), &words);
                 self.opened[depth] = count;
                 self.depth = depth + 1;
                 self.count = count + 1;

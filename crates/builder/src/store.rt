@@ -1,5 +1,8 @@
 // Stores into the lent run.
 use tree::types::Span;
+use tree::words::span_words;
+use width::CLOSE_AT;
+use width::TREE_WORDS;
 ghost use mathlib.Core.Path.{_≡_};
 ghost use Prim.Native.Nat.{_+_, _*_, _≤_, _<_};
 ghost use lib.ListN.{length};
@@ -25,13 +28,7 @@ pub(crate) fn close_tree(list: &mut [u32], m: usize, count: u32, closing: Span)
     ensures { λ _. ⌜ now (list .exit) ≡ closedAt (now (list .entry)) m count (wordsOf closing) ⌝ }
 {
     let one = [count];
-    put_words(list, 13 * m + 1, &one);
-    let words = [
-        closing.file,
-        closing.ast_id,
-        closing.context,
-        closing.start,
-        closing.len,
-    ];
-    put_words(list, 13 * m + 8, &words);
+    put_words(list, TREE_WORDS * m + 1, &one);
+    let words = span_words(closing);
+    put_words(list, TREE_WORDS * m + CLOSE_AT, &words);
 }

@@ -4,6 +4,7 @@ use mathlib.Core.Bool.{Bool, true, false}
 use mathlib.Core.Path.{_≡_, refl, sym, ap, _∙_, subst}
 use mathlib.Core.List.{List, [], _∷_}
 use Rattle.format.specs.Verdict as format
+use Rattle.format.specs.Width.{spanSize}
 use Rattle.format.specs.Builder.{Step, builderStep, newVerdict, new, pointVerdict, restorePoint}
 use Rattle.format.specs.Builder as steps
 use Rattle.tree.specs.Types.{wordsOf}
@@ -22,7 +23,7 @@ use Rattle.builder.specs.declared.state.Stepped.{Stepped}
 use Rattle.builder.specs.declared.restore.PointTaken.{PointTaken}
 use Rattle.builder.specs.declared.restore.PointTaken.the-variants as taken
 use Rattle.export.specs.Replies.{refusedCode, verdictCode, reportCode}
-use Rattle.export.specs.Roots.{spanFrom}
+use Rattle.export.specs.Roots.{spanIn}
 use Rattle.export.specs.Builders.{lent, stateList, StepStored, Handed, NewReplied, StepReplied, PointReplied, BuildReplied}
 
 pub step-stored : (s : Stepped) (r n : ℕ) → (n ≡ s .builder .count) × (n < 4294967296) → r ≡ verdictCode (s .verdict)
@@ -46,23 +47,23 @@ module _ (s : Stepped) (r : ℕ) (next′ opened′ : List ℕ) (p : StepStored 
   stepped : (t : Step) (b : Builder) (l l′ : List ℕ) → Taken t b l s l′ → StepReplied t b l r next′ opened′ l′
   stepped t b l l′ h = record { handed = handed _ _ (h .answer) (h .builder); words = h .words }
 
-  pub new-replied : (kind : ℕ) (w : List ℕ) (o c : Span) (l l′ : List ℕ) → o ≡ spanFrom w 0 → c ≡ spanFrom w 5 → Begun kind o c l s l′
-      → NewReplied kind (spanFrom w 0) (spanFrom w 5) l r next′ opened′ l′
+  pub new-replied : (kind : ℕ) (w : List ℕ) (o c : Span) (l l′ : List ℕ) → o ≡ spanIn w 0 → c ≡ spanIn w spanSize → Begun kind o c l s l′
+      → NewReplied kind (spanIn w 0) (spanIn w spanSize) l r next′ opened′ l′
   new-replied kind w o c l l′ e f h =
-      subst (λ (x : Span). NewReplied kind (spanFrom w 0) x l r next′ opened′ l′) f
+      subst (λ (x : Span). NewReplied kind (spanIn w 0) x l r next′ opened′ l′) f
       (subst (λ (x : Span). NewReplied kind x c l r next′ opened′ l′) e (begun kind o c l l′ h))
 
   module _ (n d : ℕ) (a l : List ℕ) where
     pub push-replied : (w l′ : List ℕ) → Taken (steps.push w) (lent n d a) l s l′ → StepReplied (steps.push w) (lent n d a) l r next′ opened′ l′
     push-replied w l′ h = stepped _ _ l l′ h
 
-    pub open-replied : (k : ℕ) (w : List ℕ) (o : Span) (l′ : List ℕ) → o ≡ spanFrom w 0 → Taken (steps.openSubtree k (wordsOf o)) (lent n d a) l s l′
-        → StepReplied (steps.openSubtree k (wordsOf (spanFrom w 0))) (lent n d a) l r next′ opened′ l′
+    pub open-replied : (k : ℕ) (w : List ℕ) (o : Span) (l′ : List ℕ) → o ≡ spanIn w 0 → Taken (steps.openSubtree k (wordsOf o)) (lent n d a) l s l′
+        → StepReplied (steps.openSubtree k (wordsOf (spanIn w 0))) (lent n d a) l r next′ opened′ l′
     open-replied k w o l′ e h =
         subst (λ (x : Span). StepReplied (steps.openSubtree k (wordsOf x)) (lent n d a) l r next′ opened′ l′) e (stepped _ _ l l′ h)
 
-    pub close-replied : (w : List ℕ) (c : Span) (l′ : List ℕ) → c ≡ spanFrom w 0 → Taken (steps.closeSubtree (wordsOf c)) (lent n d a) l s l′
-        → StepReplied (steps.closeSubtree (wordsOf (spanFrom w 0))) (lent n d a) l r next′ opened′ l′
+    pub close-replied : (w : List ℕ) (c : Span) (l′ : List ℕ) → c ≡ spanIn w 0 → Taken (steps.closeSubtree (wordsOf c)) (lent n d a) l s l′
+        → StepReplied (steps.closeSubtree (wordsOf (spanIn w 0))) (lent n d a) l r next′ opened′ l′
     close-replied w c l′ e h =
         subst (λ (x : Span). StepReplied (steps.closeSubtree (wordsOf x)) (lent n d a) l r next′ opened′ l′) e (stepped _ _ l l′ h)
 

@@ -6,6 +6,7 @@ use mathlib.Core.List.{List, [], _∷_}
 use borrow.Author.Tests.{lt-ltb, le-ltb}
 use lib.ListN.{length}
 use Rattle.format.specs.Test.{if_then_else_}
+use Rattle.format.specs.Width.{treeSize}
 use Rattle.format.specs.Word.{put}
 use Rattle.format.specs.Span.{Span, spanAt, symbolAt}
 use Rattle.pack.specs.Answer.{spanAnswer, symbolAnswer}
@@ -119,15 +120,15 @@ root-stored b at s t n d kids p r b′ k e = record { reply = e ∙ ap codeOf (k
 -- ---- a tree that is read
 
 module _ (b parts symbols : List ℕ) (n at : ℕ) (w : List ℕ) where
-  pub tree-few : length w < 14 → TreeFound b parts symbols n at w 9223372036854775814 w
-  tree-few h = let t = lt-ltb (length w) 14 h in record { reply = simp t; contents = simp t }
+  pub tree-few : length w < treeSize + 1 → TreeFound b parts symbols n at w 9223372036854775814 w
+  tree-few h = let t = lt-ltb (length w) (treeSize + 1) h in record { reply = simp t; contents = simp t }
 
-  module _ (h : 14 ≤ length w) (a : TreeRead) (e : a ≡ treeAnswer (decoded b parts symbols n at)) where
+  module _ (h : treeSize + 1 ≤ length w) (a : TreeRead) (e : a ≡ treeAnswer (decoded b parts symbols n at)) where
     pub tree-none : (k r : ℕ) → a ≡ trees.Refused k → r ≡ refusalCode k → TreeFound b parts symbols n at w r w
-    tree-none k r d q = let t = le-ltb (length w) 14 h in let f = sym e ∙ d in record { reply = simp (t, f) q; contents = simp (t, f) }
+    tree-none k r d q = let t = le-ltb (length w) (treeSize + 1) h in let f = sym e ∙ d in record { reply = simp (t, f) q; contents = simp (t, f) }
 
     pub tree-some : (y : TreeAt) (ws w′ : List ℕ) → a ≡ trees.Got y → ws ≡ treeWordsOf (y .tree) → w′ ≡ put w 0 (ws ++ y .children .0 ∷ []) → TreeFound b parts symbols n at w (y .next) w′
-    tree-some y ws w′ d g q = let t = le-ltb (length w) 14 h in let f = sym e ∙ d in record { reply = simp (t, f); contents = simp (t, f) (q ∙ rw g) }
+    tree-some y ws w′ d g q = let t = le-ltb (length w) (treeSize + 1) h in let f = sym e ∙ d in record { reply = simp (t, f); contents = simp (t, f) (q ∙ rw g) }
 
 pub ruleset tree-cases = (tree-refused, tree-stored, root-stored, tree-few, tree-none, tree-some)
 

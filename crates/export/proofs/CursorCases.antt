@@ -1,5 +1,5 @@
 -- One law for each return of a cursor's functions.
-use Prim.Native.Nat.{ℕ, zero, suc, _+_, _<_, _≤_}
+use Prim.Native.Nat.{ℕ, zero, suc, _+_, _*_, _<_, _≤_}
 use mathlib.Core.Bool.{Bool, true, false, not}
 use mathlib.Core.Path.{_≡_, refl, sym, ap, _∙_, subst}
 use mathlib.Core.List.{List, [], _∷_, _++_}
@@ -7,6 +7,7 @@ use native.Mathlib.Omega.{arith}
 use borrow.Author.Tests.{lt-ltb, le-ltb, not-true, not-false}
 use lib.ListN.{length, getD}
 use Rattle.format.specs.Test.{if_then_else_}
+use Rattle.format.specs.Width.{treeSize}
 use Rattle.format.specs.Word.{put}
 use Rattle.format.specs.Reader as format
 use Rattle.format.specs.Reader.{Reader}
@@ -148,18 +149,18 @@ module _ (b : List ℕ) (k : ℕ) (parts symbols : List ℕ) (c : At) (ns cs ps 
         record { replied = record { reply = simp t; after = simp t; handed = simp t }; numbers = simp t; counts = simp t; places = simp t }
 
     module _ (h : 3 ≤ length next) where
-      pub cursor-few-words : length words < 26 → CursorReplied b k parts symbols (callOf n) c ns cs ps next words 9223372062624579584 next words ns cs ps
+      pub cursor-few-words : length words < 2 * treeSize → CursorReplied b k parts symbols (callOf n) c ns cs ps next words 9223372062624579584 next words ns cs ps
       cursor-few-words g =
           let t = le-ltb (length next) 3 h in
-          let u = lt-ltb (length words) 26 g in
+          let u = lt-ltb (length words) (2 * treeSize) g in
           record { replied = record { reply = simp (t, u); after = simp (t, u); handed = simp (t, u) }; numbers = simp (t, u); counts = simp (t, u); places = simp (t, u) }
 
-      module _ (g : 26 ≤ length words) (r : ℕ) (next′ words′ : List ℕ) where
+      module _ (g : 2 * treeSize ≤ length words) (r : ℕ) (next′ words′ : List ℕ) where
         replies : (a : format.Answer (List ℕ)) (c′ : At) (ns′ cs′ ps′ : List ℕ) → Called b k parts symbols (callOf n) c ns cs ps a c′ ns′ cs′ ps′
             → Replied a (atList c′) next words r next′ words′ → CursorReplied b k parts symbols (callOf n) c ns cs ps next words r next′ words′ ns′ cs′ ps′
         replies a c′ ns′ cs′ ps′ m p =
             let t = le-ltb (length next) 3 h in
-            let u = le-ltb (length words) 26 g in
+            let u = le-ltb (length words) (2 * treeSize) g in
             let x = m .answer in
             let q : Replied a (atList (stateOf (called b k parts symbols (callOf n) c ns cs ps .1))) next words r next′ words′ =
             subst (λ (y : At). Replied a (atList y) next words r next′ words′) (m .state) p in

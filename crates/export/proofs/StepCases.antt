@@ -6,6 +6,7 @@ use mathlib.Core.List.{List, [], _∷_, _++_}
 use borrow.Author.Tests.{lt-ltb, le-ltb}
 use lib.ListN.{length}
 use Rattle.format.specs.Test.{if_then_else_}
+use Rattle.format.specs.Width.{spanSize, treeSize}
 use Rattle.format.specs.Word.{put}
 use Rattle.format.specs.Reader as format
 use Rattle.format.specs.Walk as steps
@@ -58,17 +59,17 @@ module _ (b : List ℕ) (k : ℕ) (parts symbols : List ℕ) (w : Walk) (skips :
   walk-few h = let t = lt-ltb (length next) 3 h in record { replied = record { reply = simp t; after = simp t; handed = simp t } }
 
   module _ (h : 3 ≤ length next) where
-    pub walk-few-words : length words < 13 → WalkReplied b k parts symbols w skips next words 9223372062624579584 next words
+    pub walk-few-words : length words < treeSize → WalkReplied b k parts symbols w skips next words 9223372062624579584 next words
     walk-few-words g =
         let t = le-ltb (length next) 3 h in
-        let u = lt-ltb (length words) 13 g in
+        let u = lt-ltb (length words) treeSize g in
         record { replied = record { reply = simp (t, u); after = simp (t, u); handed = simp (t, u) } }
 
-    pub walk-replied : 13 ≤ length words → (s : Step) (r : ℕ) (next′ words′ : List ℕ) → Stepped b k parts symbols (stepCall skips) w s
+    pub walk-replied : treeSize ≤ length words → (s : Step) (r : ℕ) (next′ words′ : List ℕ) → Stepped b k parts symbols (stepCall skips) w s
         → StepStored s next words r next′ words′ → WalkReplied b k parts symbols w skips next words r next′ words′
     walk-replied g s r next′ words′ e q =
         let t = le-ltb (length next) 3 h in
-        let u = le-ltb (length words) 13 g in
+        let u = le-ltb (length words) treeSize g in
         let a = e .words in
         let p = q .replied in
         let x = ap (λ (y : format.Answer (List ℕ) × steps.Walk). y .0) a in
@@ -97,11 +98,11 @@ module _ (a : LastSpan) (words : List ℕ) where
   last-some s words′ e q = record { reply = simp e; handed = simp e q }
 
 module _ (b : List ℕ) (k : ℕ) (parts symbols : List ℕ) (w : Walk) (words : List ℕ) where
-  pub last-few : length words < 5 → LastReplied b k parts symbols w words 9223372062624579584 words
-  last-few h = let t = lt-ltb (length words) 5 h in record { reply = simp t; handed = simp t }
+  pub last-few : length words < spanSize → LastReplied b k parts symbols w words 9223372062624579584 words
+  last-few h = let t = lt-ltb (length words) spanSize h in record { reply = simp t; handed = simp t }
 
-  pub last-replied : 5 ≤ length words → (a : LastSpan) (r : ℕ) (words′ : List ℕ) → lastOf a ≡ lastSpan b k parts symbols (walkOf w)
+  pub last-replied : spanSize ≤ length words → (a : LastSpan) (r : ℕ) (words′ : List ℕ) → lastOf a ≡ lastSpan b k parts symbols (walkOf w)
       → LastStored a words r words′ → LastReplied b k parts symbols w words r words′
-  last-replied h a r words′ e q = let t = le-ltb (length words) 5 h in record { reply = simp (t, ← e) (q .reply); handed = simp (t, ← e) (q .handed) }
+  last-replied h a r words′ e q = let t = le-ltb (length words) spanSize h in record { reply = simp (t, ← e) (q .reply); handed = simp (t, ← e) (q .handed) }
 
 pub ruleset step-cases = (step-skips, step-advances, walk-stored, step-refused, step-none, step-tree, walk-few, walk-few-words, walk-replied, last-refused, last-none, last-some, last-few, last-replied)

@@ -6,6 +6,7 @@ use mathlib.Core.List.{List, [], _∷_, _++_}
 use lib.Dec.{ltb}
 use lib.ListN.{length}
 use Rattle.format.specs.Test.{if_then_else_}
+use Rattle.format.specs.Width.{treeSize}
 use Rattle.format.specs.Word.{put}
 use Rattle.format.specs.Span.{Span, spanAt, symbolAt}
 use Rattle.format.specs.Pack.{spanReport, spanPacked, symbolReport, symbolPacked}
@@ -86,7 +87,7 @@ treeReply b at m t kids = codeOf (packedAnswer (report (packTree b at m t kids) 
 abbrev pub treeLeft : List ℕ → ℕ → ℕ → Raw → ℕ → List ℕ
 treeLeft b at m t kids = verdict.contents (packTree b at m t kids) b (put b at (treeBytes m t kids))
 
--- the tree of 13 list words: 2 if a word is out of range, then as the tree is packed
+-- the tree of these list words: 2 if a word is out of range, then as the tree is packed
 pub record TreeStored (b : List ℕ) (at : ℕ) (w : List ℕ) (o c y kids : ℕ) (r : ℕ) (b′ : List ℕ) : Type 0 where
   pub reply : r ≡ (if wordFields (wordOf w 0) then treeReply b at 1 (rawFrom o c y (wordOf w 0)) kids else refusalCode 2)
   pub contents : b′ ≡ (if wordFields (wordOf w 0) then treeLeft b at 1 (rawFrom o c y (wordOf w 0)) kids else b)
@@ -95,7 +96,7 @@ pub record RootStored (b : List ℕ) (at : ℕ) (s t : Span) (n d kids : ℕ) (r
   pub reply : r ≡ treeReply b at 0 (subtree s t n d) kids
   pub contents : b′ ≡ treeLeft b at 0 (subtree s t n d) kids
 
--- tree n as it is read: 13 list words and the children bytes
+-- tree n as it is read: its list words and the children bytes
 abbrev pub treeCode : TreeRead → ℕ
 treeCode (trees.Got y) = y .next
 treeCode (trees.Refused k) = refusalCode k
@@ -105,5 +106,5 @@ foundWords w (trees.Got y) = put w 0 (treeWordsOf (y .tree) ++ y .children .0 �
 foundWords w (trees.Refused k) = w
 
 pub record TreeFound (b parts symbols : List ℕ) (n at : ℕ) (w : List ℕ) (r : ℕ) (w′ : List ℕ) : Type 0 where
-  pub reply : r ≡ (if ltb (length w) 14 then refusalCode 6 else treeCode (treeAnswer (decoded b parts symbols n at)))
-  pub contents : w′ ≡ (if ltb (length w) 14 then w else foundWords w (treeAnswer (decoded b parts symbols n at)))
+  pub reply : r ≡ (if ltb (length w) (treeSize + 1) then refusalCode 6 else treeCode (treeAnswer (decoded b parts symbols n at)))
+  pub contents : w′ ≡ (if ltb (length w) (treeSize + 1) then w else foundWords w (treeAnswer (decoded b parts symbols n at)))

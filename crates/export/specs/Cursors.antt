@@ -1,7 +1,8 @@
 -- Cursor calls, by value and over lent arrays alike: the reply in one number, and what is lent then.
-use Prim.Native.Nat.{ℕ, zero, suc}
+use Prim.Native.Nat.{ℕ, zero, suc, _*_}
 use mathlib.Core.Path.{_≡_}
 use mathlib.Core.List.{List, [], _∷_}
+use Rattle.format.specs.Width.{treeSize}
 use Rattle.format.specs.Reader as format
 use Rattle.format.specs.Cursor as calls
 use Rattle.format.specs.Cursor.{CursorCall, bump, end, bumpOrEnd, tokenTree, peekTwoLeaves, cursorStep}
@@ -51,7 +52,7 @@ module _ (b : List ℕ) (k : ℕ) (parts symbols : List ℕ) (call : CursorCall)
 
   -- with too few lent words the arrays stay too
   pub record CursorReplied (next words : List ℕ) (r : ℕ) (next′ words′ ns′ cs′ ps′ : List ℕ) : Type 0 where
-    pub replied : Replied (withRoom 26 next words (called .0)) (atList (stateOf (called .1))) next words r next′ words′
-    pub numbers : ns′ ≡ ifShort 26 next words ns (written (λ o. o .number) ns (c .depth) (called .1 .opened))
-    pub counts : cs′ ≡ ifShort 26 next words cs (written (λ o. o .count) cs (c .depth) (called .1 .opened))
-    pub places : ps′ ≡ ifShort 26 next words ps (written (λ o. o .place) ps (c .depth) (called .1 .opened))
+    pub replied : Replied (withRoom (2 * treeSize) next words (called .0)) (atList (stateOf (called .1))) next words r next′ words′
+    pub numbers : ns′ ≡ ifShort (2 * treeSize) next words ns (written (λ o. o .number) ns (c .depth) (called .1 .opened))
+    pub counts : cs′ ≡ ifShort (2 * treeSize) next words cs (written (λ o. o .count) cs (c .depth) (called .1 .opened))
+    pub places : ps′ ≡ ifShort (2 * treeSize) next words ps (written (λ o. o .place) ps (c .depth) (called .1 .opened))

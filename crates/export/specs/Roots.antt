@@ -1,24 +1,18 @@
 -- Root rewriting: the reply in one number, and what is lent then.
-use Prim.Native.Nat.{ℕ, _+_}
+use Prim.Native.Nat.{ℕ}
 use mathlib.Core.Path.{_≡_}
 use mathlib.Core.List.{List}
 use lib.ListN.{getD}
+use Rattle.format.specs.Part.{spanFrom}
 use Rattle.format.specs.Root.{kindVerdict, kindAfter, spansVerdict, spansAfter, partsAfter}
 use Rattle.tree.specs.Refusal.{verdictAnswer}
-use Rattle.tree.specs.Types.{wordsOf}
+use Rattle.tree.specs.Types.{wordsOf, treeSpan}
 use Rattle.tree.specs.declared.types.Span.{Span}
 use Rattle.export.specs.Replies.{verdictCode}
 
--- the span of five words
-abbrev pub spanFrom : List ℕ → ℕ → Span
-spanFrom l at =
-    record {
-      file = getD l at 0;
-      «ast_id» = getD l (at + 1) 0;
-      context = getD l (at + 2) 0;
-      start = getD l (at + 3) 0;
-      len = getD l (at + 4) 0;
-    }
+-- the span whose words begin at a place
+abbrev pub spanIn : List ℕ → ℕ → Span
+spanIn l at = treeSpan (spanFrom (λ j. getD l j 0) at)
 
 module _ (b : List ℕ) (k : ℕ) (parts symbols : List ℕ) where
   pub record KindReplied (d : ℕ) (r : ℕ) (b′ : List ℕ) : Type 0 where

@@ -6,6 +6,7 @@ use mathlib.Core.List.{List, [], _∷_, _++_}
 use lib.Dec.{ltb}
 use lib.ListN.{length}
 use Rattle.format.specs.Test.{if_then_else_}
+use Rattle.format.specs.Width.{spanSize, treeSize}
 use Rattle.format.specs.Word.{put}
 use Rattle.format.specs.Reader.{Answer, done, none, one, two, refused}
 use Rattle.format.specs.Walk as steps
@@ -77,17 +78,17 @@ module _ (b : List ℕ) (k : ℕ) (parts symbols : List ℕ) (w : Walk) where
   stepped skips = steps.walkStep wordShape (ownReader b k parts symbols) (stepCall skips) (walkOf w)
 
   pub record WalkReplied (skips : Bool) (next words : List ℕ) (r : ℕ) (next′ words′ : List ℕ) : Type 0 where
-    pub replied : Replied (withRoom 13 next words (stepped skips .0)) (stateList (stepped skips .1)) next words r next′ words′
+    pub replied : Replied (withRoom treeSize next words (stepped skips .0)) (stateList (stepped skips .1)) next words r next′ words′
 
 -- ---- the last span
 
-abbrev pub withFive : List ℕ → Answer (List ℕ) → Answer (List ℕ)
-withFive words a = if ltb (length words) 5 then refused 6 0 else a
+abbrev pub withSpan : List ℕ → Answer (List ℕ) → Answer (List ℕ)
+withSpan words a = if ltb (length words) spanSize then refused 6 0 else a
 
 pub record LastStored (a : LastSpan) (words : List ℕ) (r : ℕ) (words′ : List ℕ) : Type 0 where
   pub reply : r ≡ answerCode (lastOf a)
   pub handed : words′ ≡ wordsAfter (lastOf a) words
 
 pub record LastReplied (b : List ℕ) (k : ℕ) (parts symbols : List ℕ) (w : Walk) (words : List ℕ) (r : ℕ) (words′ : List ℕ) : Type 0 where
-  pub reply : r ≡ answerCode (withFive words (lastSpan b k parts symbols (walkOf w)))
-  pub handed : words′ ≡ wordsAfter (withFive words (lastSpan b k parts symbols (walkOf w))) words
+  pub reply : r ≡ answerCode (withSpan words (lastSpan b k parts symbols (walkOf w)))
+  pub handed : words′ ≡ wordsAfter (withSpan words (lastSpan b k parts symbols (walkOf w))) words

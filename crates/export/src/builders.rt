@@ -3,16 +3,20 @@
 use crate::replies::refused_code;
 use crate::replies::report_code;
 use crate::replies::verdict_code;
-use crate::roots::span_of;
+use crate::roots::TWO_SPANS;
+use crate::roots::span_in;
 use builder::restore::PointTaken;
 use builder::state::Builder;
 use builder::state::Point;
 use builder::state::Stepped;
 use tree::raw::place as wide;
+use width::SPAN_WORDS;
+use width::TREE_WORDS;
 ghost use mathlib.Core.Path.{_≡_};
+ghost use Rattle.format.specs.Width.{spanSize};
 ghost use Rattle.format.specs.Builder.{push, openSubtree, closeSubtree, restore};
 ghost use Rattle.tree.specs.Types.{wordsOf};
-ghost use Rattle.export.specs.Roots.{spanFrom};
+ghost use Rattle.export.specs.Roots.{spanIn};
 ghost use Rattle.export.specs.Builders.{lent, StepStored, StepReplied, NewReplied};
 ghost use Rattle.export.specs.Builders.{PointReplied, BuildReplied};
 
@@ -29,31 +33,31 @@ fn store_step(stepped: Stepped, next: &mut [usize; 2], opened: &mut [u32; 256]) 
     verdict_code(verdict)
 }
 
-// Five words of the root's opening span, then five of its closing one.
+// The words of the root's opening span, then those of its closing one.
 #[no_mangle]
 pub extern "C" fn tt_builder_new(
     list: &mut [u32],
     kind: u32,
-    spans: &[u32; 10],
+    spans: &[u32; TWO_SPANS],
     next: &mut [usize; 2],
     opened: &mut [u32; 256],
 ) -> u64
-    ensures { λ r. ⌜ NewReplied kind (spanFrom (now (spans .entry)) 0) (spanFrom (now (spans .entry)) 5)
+    ensures { λ r. ⌜ NewReplied kind (spanIn (now (spans .entry)) 0) (spanIn (now (spans .entry)) spanSize)
         (now (list .entry)) r (now (next .exit)) (now (opened .exit)) (now (list .exit)) ⌝ }
 {
-    let opening = span_of(spans[0], spans[1], spans[2], spans[3], spans[4]);
-    let closing = span_of(spans[5], spans[6], spans[7], spans[8], spans[9]);
+    let opening = span_in(spans, 0);
+    let closing = span_in(spans, SPAN_WORDS);
     let stepped = Builder::new(list, kind, opening, closing);
     store_step(stepped, next, opened)
 }
 
-// A leaf by its 13 list words.
+// A leaf by its list words.
 #[no_mangle]
 pub extern "C" fn tt_builder_push(
     list: &mut [u32],
     count: u32,
     depth: usize,
-    leaf: &[u32; 13],
+    leaf: &[u32; TREE_WORDS],
     next: &mut [usize; 2],
     opened: &mut [u32; 256],
 ) -> u64
@@ -77,11 +81,11 @@ pub extern "C" fn tt_builder_open(
     count: u32,
     depth: usize,
     kind: u32,
-    span: &[u32; 5],
+    span: &[u32; SPAN_WORDS],
     next: &mut [usize; 2],
     opened: &mut [u32; 256],
 ) -> u64
-    ensures { λ r. ⌜ StepReplied (openSubtree kind (wordsOf (spanFrom (now (span .entry)) 0)))
+    ensures { λ r. ⌜ StepReplied (openSubtree kind (wordsOf (spanIn (now (span .entry)) 0)))
         (lent count depth (now (opened .entry))) (now (list .entry))
         r (now (next .exit)) (now (opened .exit)) (now (list .exit)) ⌝ }
 {
@@ -91,7 +95,7 @@ pub extern "C" fn tt_builder_open(
         depth: depth,
         opened: numbers,
     };
-    let opening = span_of(span[0], span[1], span[2], span[3], span[4]);
+    let opening = span_in(span, 0);
     let stepped = builder.open(list, kind, opening);
     store_step(stepped, next, opened)
 }
@@ -101,11 +105,11 @@ pub extern "C" fn tt_builder_close(
     list: &mut [u32],
     count: u32,
     depth: usize,
-    span: &[u32; 5],
+    span: &[u32; SPAN_WORDS],
     next: &mut [usize; 2],
     opened: &mut [u32; 256],
 ) -> u64
-    ensures { λ r. ⌜ StepReplied (closeSubtree (wordsOf (spanFrom (now (span .entry)) 0)))
+    ensures { λ r. ⌜ StepReplied (closeSubtree (wordsOf (spanIn (now (span .entry)) 0)))
         (lent count depth (now (opened .entry))) (now (list .entry))
         r (now (next .exit)) (now (opened .exit)) (now (list .exit)) ⌝ }
 {
@@ -115,7 +119,7 @@ pub extern "C" fn tt_builder_close(
         depth: depth,
         opened: numbers,
     };
-    let closing = span_of(span[0], span[1], span[2], span[3], span[4]);
+    let closing = span_in(span, 0);
     let stepped = builder.close(list, closing);
     store_step(stepped, next, opened)
 }

@@ -1,5 +1,6 @@
 // Cursor calls by the methods on the cursor itself; its arrays are copied in and out.
 use crate::replies::TOO_SHORT;
+use crate::unchecked::TWO_TREES;
 use crate::unchecked::store_answer;
 use crate::unchecked::store_leaves;
 use cursor::cursor::Cursor;
@@ -68,7 +69,7 @@ pub extern "C" fn tt_cursor_by_value(
     if next.len() < 3 {
         return TOO_SHORT;
     }
-    if words.len() < 26 {
+    if words.len() < TWO_TREES {
         return TOO_SHORT;
     }
     let opened = *numbers;

@@ -1,5 +1,6 @@
 // Cursor calls over three lent arrays.
 use crate::replies::TOO_SHORT;
+use crate::unchecked::TWO_TREES;
 use crate::unchecked::store_answer;
 use crate::unchecked::store_leaves;
 use cursor::lent::Moved;
@@ -74,7 +75,7 @@ pub extern "C" fn tt_cursor(
     if next.len() < 3 {
         return TOO_SHORT;
     }
-    if words.len() < 26 {
+    if words.len() < TWO_TREES {
         return TOO_SHORT;
     }
     let at = At {

@@ -12,10 +12,12 @@ use tree::raw::RawSubtree;
 use tree::words::RawWords;
 use tree::words::raw_from_words;
 use tree::words::tree_words;
+use width::TREE_WORDS;
 ghost use mathlib.Core.Path.{_≡_};
 ghost use mathlib.Core.List.{_∷_, [], _++_};
-ghost use Prim.Native.Nat.{_≤_};
+ghost use Prim.Native.Nat.{_+_, _≤_};
 ghost use lib.ListN.{length};
+ghost use Rattle.format.specs.Width.{treeSize};
 ghost use Rattle.format.specs.Word.{put};
 ghost use Rattle.export.specs.Code.{refusalCode, TreeStored, RootStored, TreeFound};
 
@@ -25,12 +27,12 @@ fn refusal_code(k: u32) -> u64
     9223372036854775808 + (k as u64)
 }
 
-// The tree of 13 list words, with the indices of its open and close part and of its symbol.
+// The tree of these list words, with the indices of its open and close part and of its symbol.
 #[no_mangle]
 pub extern "C" fn tt_encode_tree(
     out: &mut [u8],
     at: usize,
-    tree: &[u32; 13],
+    tree: &[u32; TREE_WORDS],
     open_index: u32,
     close_index: u32,
     symbol_index: u32,
@@ -88,15 +90,18 @@ pub extern "C" fn tt_encode_top_subtree(
     code_of(p)
 }
 
-fn store_tree(words: &mut [u32], from: [u32; 13], children: u32)
-    requires { ⌜ 14 ≤ length (now words) ⌝ }
+// A tree's words and its children bytes.
+const FOUND_WORDS: usize = TREE_WORDS + 1;
+
+fn store_tree(words: &mut [u32], from: [u32; TREE_WORDS], children: u32)
+    requires { ⌜ treeSize + 1 ≤ length (now words) ⌝ }
     ensures { λ _. ⌜ now (words .exit) ≡ put (now (words .entry)) 0 (from ++ children ∷ []) ⌝ }
 {
     store_words(words, 0, from);
-    words[13] = children;
+    words[TREE_WORDS] = children;
 }
 
-// The 13 list words of tree n and its children bytes go to 14 words; the answer is the place behind the tree.
+// The list words of tree n and then its children bytes are stored; the answer is the place behind the tree.
 #[no_mangle]
 pub extern "C" fn tt_decode_tree(
     b: &[u8],
@@ -109,7 +114,7 @@ pub extern "C" fn tt_decode_tree(
     ensures { λ r. ⌜ TreeFound (now (b .entry)) (now (parts .entry)) (now (symbols .entry)) n at
         (now (words .entry)) r (now (words .exit)) ⌝ }
 {
-    if words.len() < 14 {
+    if words.len() < FOUND_WORDS {
         return 9223372036854775814;
     }
     let read = decode(b, parts, symbols, n, at);

@@ -13,9 +13,13 @@ use walk::walk::Step;
 use walk::walk::Walk;
 use walk::walk::advance;
 use walk::walk::advance_skip_subtree;
+use width::PART_WORDS;
+use width::SPAN_WORDS;
+use width::TREE_WORDS;
 ghost use mathlib.Core.Path.{_≡_};
 ghost use Prim.Native.Nat.{_≤_};
 ghost use lib.ListN.{length};
+ghost use Rattle.format.specs.Width.{spanSize, treeSize};
 ghost use Rattle.format.specs.Word.{put};
 ghost use Rattle.tree.specs.Types.{spanList};
 ghost use Rattle.walk.specs.Walk.{Stepped};
@@ -40,7 +44,7 @@ fn store_walk(next: &mut [usize], walk: Walk)
 }
 
 fn store_step(step: Step, next: &mut [usize], words: &mut [u32]) -> u64
-    requires { ⌜ (3 ≤ length (now next)) × (13 ≤ length (now words)) ⌝ }
+    requires { ⌜ (3 ≤ length (now next)) × (treeSize ≤ length (now words)) ⌝ }
     ensures { λ r. ⌜ StepStored step (now (next .entry)) (now (words .entry)) r (now (next .exit))
         (now (words .exit)) ⌝ }
 {
@@ -60,7 +64,7 @@ fn store_step(step: Step, next: &mut [usize], words: &mut [u32]) -> u64
     }
 }
 
-// The answer is 0 for none, 1 for a tree, whose 13 list words are stored, or a refusal.
+// The answer is 0 for none, 1 for a tree, whose list words are stored, or a refusal.
 // Unless refused, place, number and trees left of the next walk are stored.
 #[no_mangle]
 pub extern "C" fn tt_walk(
@@ -82,7 +86,7 @@ pub extern "C" fn tt_walk(
     if next.len() < 3 {
         return TOO_SHORT;
     }
-    if words.len() < 13 {
+    if words.len() < TREE_WORDS {
         return TOO_SHORT;
     }
     let walk = Walk {
@@ -94,19 +98,24 @@ pub extern "C" fn tt_walk(
     store_step(step, next, words)
 }
 
+// Where start and length of a span stand in its words.
+const START_AT: usize = PART_WORDS;
+
+const LEN_AT: usize = START_AT + 1;
+
 fn store_span(words: &mut [u32], span: Span)
-    requires { ⌜ 5 ≤ length (now words) ⌝ }
+    requires { ⌜ spanSize ≤ length (now words) ⌝ }
     ensures { λ _. ⌜ now (words .exit) ≡ put (now (words .entry)) 0 (spanList span) ⌝ }
 {
     words[0] = span.file;
     words[1] = span.ast_id;
     words[2] = span.context;
-    words[3] = span.start;
-    words[4] = span.len;
+    words[START_AT] = span.start;
+    words[LEN_AT] = span.len;
 }
 
 fn store_last(last: LastSpan, words: &mut [u32]) -> u64
-    requires { ⌜ 5 ≤ length (now words) ⌝ }
+    requires { ⌜ spanSize ≤ length (now words) ⌝ }
     ensures { λ r. ⌜ LastStored last (now (words .entry)) r (now (words .exit)) ⌝ }
 {
     match last {
@@ -119,7 +128,7 @@ fn store_last(last: LastSpan, words: &mut [u32]) -> u64
     }
 }
 
-// The answer is as for a step; the five words of a span are stored.
+// The answer is as for a step; the words of a span are stored.
 #[no_mangle]
 pub extern "C" fn tt_last_span(
     b: &[u8],
@@ -134,7 +143,7 @@ pub extern "C" fn tt_last_span(
     ensures { λ r. ⌜ LastReplied (now (b .entry)) trees (now (parts .entry)) (now (symbols .entry))
         (record { place = place; number = number; left = left }) (now (words .entry)) r (now (words .exit)) ⌝ }
 {
-    if words.len() < 5 {
+    if words.len() < SPAN_WORDS {
         return TOO_SHORT;
     }
     let walk = Walk {

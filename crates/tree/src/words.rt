@@ -37,6 +37,7 @@ use width::OPEN_AT;
 use width::OPEN_LEN;
 use width::OPEN_START;
 use width::PART_WORDS;
+use width::SPAN_WORDS;
 use width::TREE_WORDS;
 ghost use mathlib.Core.Path.{_≡_};
 ghost use mathlib.Core.List.{_∷_, _++_};
@@ -325,7 +326,15 @@ fn literal_word(kind: LitKind, suffix_len: u32) -> u32
     low_word(counted + 65536 * (suffix_len as u64))
 }
 
-fn words_of(sort: u32, first: u32, second: u32, span: Span, closing: Span) -> [u32; TREE_WORDS]
+// The list words of a span.
+pub fn span_words(span: Span) -> [u32; SPAN_WORDS]
+    ensures { λ r. ⌜ r ≡ spanList span ⌝ }
+{
+    [span.file, span.ast_id, span.context, span.start, span.len]
+}
+
+// The list words of a tree by its sort, its own two words and its spans.
+pub fn words_of(sort: u32, first: u32, second: u32, span: Span, closing: Span) -> [u32; TREE_WORDS]
     ensures { λ r. ⌜ r ≡ (sort ∷ first ∷ second ∷ spanList span ++ spanList closing) ⌝ }
 {
     [

@@ -6,31 +6,11 @@ use Rattle.export.proofs.builders.tt_builder_open.Reads as reads
 use Rattle.export.proofs.builders.tt_builder_open.Lts as lts
 use Rattle.builder.proofs.state.Builder.open.Reads as open-reads
 use Rattle.export.proofs.builders.store_step.Reads as store-step-reads
-use Rattle.export.proofs.roots.span_of.Reads as span-of-reads
-
--- src/builders.rt:132:27
-element-copy-out-span-of : tie.Need-element-copy-out-span-of
-element-copy-out-span-of c = search (needs, builder-cases)
-
--- src/builders.rt:132:36
-element-copy-out-span-of-2 : tie.Need-element-copy-out-span-of-2
-element-copy-out-span-of-2 c = search (needs, builder-cases)
-
--- src/builders.rt:132:45
-element-copy-out-span-of-3 : tie.Need-element-copy-out-span-of-3
-element-copy-out-span-of-3 c = search (needs, builder-cases)
-
--- src/builders.rt:132:54
-element-copy-out-span-of-4 : tie.Need-element-copy-out-span-of-4
-element-copy-out-span-of-4 c = search (needs, builder-cases)
-
--- src/builders.rt:132:63
-element-copy-out-span-of-5 : tie.Need-element-copy-out-span-of-5
-element-copy-out-span-of-5 c = search (needs, builder-cases)
+use Rattle.export.proofs.roots.span_in.Reads as span-in-reads
 
 -- src/builders.rt:132:9
-span-of-requires : tie.Need-span-of-requires
-span-of-requires c κs = search (needs, builder-cases)
+span-in-requires : tie.Need-span-in-requires
+span-in-requires c κs = search (needs, builder-cases)
 
 -- src/builders.rt:133:9
 open-requires : tie.Need-open-requires
@@ -52,12 +32,7 @@ pub tt-builder-open-spec : {M : Type 1} → statement M
 tt-builder-open-spec =
     tie.close
     (tie.spec
-    element-copy-out-span-of
-    element-copy-out-span-of-2
-    element-copy-out-span-of-3
-    element-copy-out-span-of-4
-    element-copy-out-span-of-5
-    span-of-requires
+    span-in-requires
     open-requires
     store-step-requires
     same-length

@@ -1,6 +1,7 @@
 use Prim.Native.Nat.{_+_, _-_, _≤_}
 use mathlib.Core.Path.{_≡_}
 use lib.ListN.{length, take}
+use Rattle.format.specs.Width.{treeSize}
 use Rattle.format.specs.Word.{put}
 use borrow.Author.Needs.{needs}
 use Rattle.export.proofs.StoreCases.{store-cases}
@@ -10,10 +11,10 @@ use Rattle.export.proofs.unchecked.store_words.Reads as reads
 use Rattle.export.proofs.unchecked.store_words.Lts as lts
 
 abbrev Inv-loop : tie.InvT-loop
-Inv-loop words₀ at from i₀ words i = (words ≡ put words₀ at (take i from)) × (i ≤ 13) × (length words ≡ length words₀) × (length from ≡ 13) × (at + 13 ≤ length words₀)
+Inv-loop words₀ at from i₀ words i = (words ≡ put words₀ at (take i from)) × (i ≤ treeSize) × (length words ≡ length words₀) × (length from ≡ treeSize) × (at + treeSize ≤ length words₀)
 
 abbrev μ-loop : tie.MeasureT-loop
-μ-loop words₀ at from i₀ words i = 13 - i
+μ-loop words₀ at from i₀ words i = treeSize - i
 
 -- src/unchecked.rt:14:5
 loop-holds : tie.Need-loop-holds Inv-loop μ-loop
