@@ -1,5 +1,5 @@
 // One tree as the check sees it: its sort, where it ends, and a subtree's two counts.
-use decode::judge::tree_at;
+use decode::judge::tree_in;
 use tree::limits::Limits;
 use tree::raw::ChildrenBytes;
 use tree::raw::Descendants;
@@ -59,7 +59,7 @@ pub(crate) fn glance_at(b: &[u8], sizes: Sizes, n: u32, at: usize) -> Glance
     ensures { λ r. ⌜ r ≡ glanceAt (now (b .entry)) sizes n at ⌝ }
 {
     let limits = sizes.limits;
-    let read = tree_at(b, limits, n, at);
+    let read = tree_in(b, limits, n, at);
     match read {
         RawRead::Bad(number) => Glance::Bad(number),
         RawRead::Got(here) => glance_of(here),

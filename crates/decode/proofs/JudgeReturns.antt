@@ -191,4 +191,16 @@ module _ (b : List ℕ) (N : Limits) (n at : ℕ) (r : RawRead) (e : r ≡ rawAn
     pub judged-got : row ≡ 0 → Got y ≡ rawAnswer (judge (λ n t. t) (limitRules (limitsOf N)) n at (treeAt b at))
     judged-got l = sym q ∙ e ∙ rw (reply-got (inRange (treeAt b at)) r e y q) (rw (by-row, l) refl)
 
-pub ruleset judge-cases = (any-form, form-low, form-other, form-root, judged-bad, judged-row, judged-got)
+-- how the tables' sizes are judged changes no tree
+judged-same : {A : Type 0} (show : ℕ → Raw → A) (T T′ : TableRules) (n at : ℕ) → T .judged ≡ T′ .judged → (z : Reply Raw) → judge show T n at z ≡ judge show T′ n at z
+unfolding judge
+judged-same show T T′ n at e (bad r) = refl
+judged-same show T T′ n at e (got t next kids) =
+    ap (λ (f : ℕ → Raw → ℕ). if not (formed n at next) then bad 2 else (if not (fields t) then bad 2 else unless (f n t) (got (show n t) next kids))) e
+
+pub judged-own : (b : List ℕ) (N : Limits) (p y n at : ℕ) (r : RawRead) → limitsOf N ≡ format.ownLimits p y
+    → r ≡ rawAnswer (judge (λ n t. t) (limitRules (limitsOf N)) n at (treeAt b at)) → r ≡ rawAnswer (judge (λ n t. t) (format.countRules p y) n at (treeAt b at))
+judged-own b N p y n at r e q =
+    q ∙ ap rawAnswer (judged-same (λ n t. t) (limitRules (limitsOf N)) (format.countRules p y) n at (ap rowEight e) (treeAt b at))
+
+pub ruleset judge-cases = (any-form, form-low, form-other, form-root, judged-bad, judged-row, judged-got, judged-own)

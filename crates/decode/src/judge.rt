@@ -1,6 +1,7 @@
 // One tree of a buffer, judged by its number and how far its indices may reach: 7, 2 and 8 in turn.
 use crate::read::raw_at;
 use tree::limits::Limits;
+use tree::limits::own_limits;
 use tree::raw::RawRead;
 use tree::raw::RawTree;
 use tree::raw::place;
@@ -9,6 +10,7 @@ ghost use mathlib.Core.Bool.{false, _&&_};
 ghost use Prim.Native.Nat.{_+_};
 ghost use lib.Dec.{ltb, eqb};
 ghost use Rattle.format.specs.Tree.{treeAt};
+ghost use Rattle.format.specs.Tables.{countRules};
 ghost use Rattle.format.specs.Buffer.{formed, judge};
 ghost use Rattle.tree.specs.Raw.{rawOf, rawAnswer};
 ghost use Rattle.tree.specs.Mode.{limitsOf};
@@ -126,7 +128,7 @@ fn tree_row(limits: Limits, n: u32, at: usize, next: usize, tree: RawTree) -> u3
 }
 
 // Tree n at a place, or the number of the first of the rows 7, 2 and 8 that refuses it.
-pub fn tree_at(b: &[u8], limits: Limits, n: u32, at: usize) -> RawRead
+pub fn tree_in(b: &[u8], limits: Limits, n: u32, at: usize) -> RawRead
     ensures { λ r. ⌜ r ≡ rawAnswer (judge (λ n t. t) (limitRules (limitsOf limits)) n at (treeAt (now (b .entry)) at)) ⌝ }
 {
     let read = raw_at(b, at);
@@ -139,4 +141,12 @@ pub fn tree_at(b: &[u8], limits: Limits, n: u32, at: usize) -> RawRead
         return RawRead::Bad(row);
     }
     read
+}
+
+// The same by the sizes of tables of which the last two parts are the root's.
+pub fn tree_at(b: &[u8], parts: usize, symbols: usize, n: u32, at: usize) -> RawRead
+    ensures { λ r. ⌜ r ≡ rawAnswer (judge (λ n t. t) (countRules parts symbols) n at (treeAt (now (b .entry)) at)) ⌝ }
+{
+    let limits = own_limits(parts, symbols);
+    tree_in(b, limits, n, at)
 }

@@ -14,14 +14,14 @@ use Rattle.format.specs.Tree.{Raw, punct, ident, literal, subtree, treeAt}
 use Rattle.format.specs.Fields.{fields}
 use Rattle.format.specs.Check.{placeOf, listing, treeOf}
 use Rattle.format.specs.Width.{partSize}
-use Rattle.format.specs.Tables.{treeWords, rules, ownTables, countRules, tablesSized, rowEight}
+use Rattle.format.specs.Tables.{rules, rowEight, limits, treeWords, ownMode, ownTables, countRules, tablesSized}
 use Rattle.format.specs.Buffer.{formed, judge, wordShape, rawShape, ownReader, sizeReader, bufferCheck}
 use Rattle.format.specs.Sight.{Alike}
 use Rattle.format.specs.Bundle.{Bundle, bundle, bundleAt, checkOf}
 use Rattle.format.specs.Lister.{header, sortWord, treeLine, treeLines, bufferLines, bundleText, listerText}
 use Rattle.format.proofs.Each.{and-left, and-right}
 use Rattle.format.proofs.Sight.{place-same, sub-same, end-same}
-use Rattle.format.proofs.RawReader.{raw-alike, own-telling}
+use Rattle.format.proofs.RawReader.{raw-alike, mode-telling}
 use Rattle.format.proofs.Own.{own-sound}
 use Rattle.format.proofs.BundleLaw.{sizesOf, bundle-by-sizes}
 use Rattle.bundle.proofs.Told.{Holds}
@@ -60,12 +60,12 @@ module _ {Tree Tree′ : Type 0} (S : Shape Tree) (R : Reader Tree) (S′ : Shap
 -- ---- the sort of a tree, by its words and by itself
 
 module _ (b : List ℕ) (k : ℕ) (parts symbols : List ℕ) where
-  words-sort : (t : Raw) → sortWord (treeWords parts symbols t) ≡ sortOf t
+  words-sort : (n : ℕ) (t : Raw) → sortWord (treeWords (ownMode parts symbols) n t) ≡ sortOf t
   unfolding treeWords sortOf
-  words-sort (punct s c x) = refl
-  words-sort (ident s i r) = refl
-  words-sort (literal s i k r x) = refl
-  words-sort (subtree s t n d) = refl
+  words-sort n (punct s c x) = refl
+  words-sort n (ident s i r) = refl
+  words-sort n (literal s i k r x) = refl
+  words-sort n (subtree s t c d) = refl
 
   sort-judged : (n p : ℕ) (q : Reply Raw)
       → sortWord (treeOf wordShape (ownReader b k parts symbols) (judge (ownTables parts symbols .words) (rules (ownTables parts symbols)) n p q))
@@ -74,20 +74,20 @@ module _ (b : List ℕ) (k : ℕ) (parts symbols : List ℕ) where
   sort-judged n p (bad r) = refl
   sort-judged n p (got t next kids) = go _ _ _ refl refl refl
     where
-      go : (x y z : Bool) → formed n p next ≡ x → fields t ≡ y → eqb (rowEight (length parts / partSize) (length symbols) n t) 0 ≡ z
+      go : (x y z : Bool) → formed n p next ≡ x → fields t ≡ y → eqb (rowEight (limits (ownMode parts symbols)) n t) 0 ≡ z
           → sortWord (treeOf wordShape (ownReader b k parts symbols) (judge (ownTables parts symbols .words) (rules (ownTables parts symbols)) n p (got t next kids)))
           ≡ sortOf (treeOf rawShape (sizeReader b k (length parts / partSize) (length symbols)) (judge (λ n t. t) (countRules (length parts / partSize) (length symbols)) n p (got t next kids)))
       go false y z f g h = simp f
       go true false z f g h = simp (f, g)
       go true true false f g h = simp (f, g, h)
-      go true true true f g h = simp (f, g, h) (words-sort t)
+      go true true true f g h = simp (f, g, h) (words-sort n t)
 
   module _ (w : length parts % partSize ≡ 0) where
     alike : Alike wordShape (ownReader b k parts symbols) rawShape (sizeReader b k (length parts / partSize) (length symbols))
     unfolding ownReader sizeReader
     alike =
         let e = eq-eqb (length parts % partSize) 0 w in
-        raw-alike b k (ownTables parts symbols) (countRules (length parts / partSize) (length symbols)) (own-telling parts symbols) (simp e) (λ n t. refl)
+        raw-alike b k (ownTables parts symbols) (countRules (length parts / partSize) (length symbols)) (mode-telling (ownMode parts symbols)) (simp e) (λ n t. refl)
 
     sort-same : (n : ℕ) → sortWord (listing wordShape (ownReader b k parts symbols) .tree n) ≡ sortOf (listing rawShape (sizeReader b k (length parts / partSize) (length symbols)) .tree n)
     unfolding ownReader sizeReader

@@ -3,8 +3,8 @@ use Rattle.checker.proofs.GlanceReturns.{glance-cases}
 use Rattle.checker.proofs.glance.glance_at.Statement.{statement}
 use Rattle.checker.proofs.glance.glance_at.Tie as tie
 
-tree-at-requires : tie.Need-tree-at-requires
-tree-at-requires c κs = search (needs, glance-cases)
+tree-in-requires : tie.Need-tree-in-requires
+tree-in-requires c κs = search (needs, glance-cases)
 
 enum-known-read : tie.Need-enum-known-read
 enum-known-read c = search (needs, glance-cases)
@@ -25,7 +25,7 @@ pub glance-at-spec : {M : Type 1} → statement M
 glance-at-spec =
     tie.close
     (tie.spec
-    tree-at-requires
+    tree-in-requires
     enum-known-read
     enum-known-read-2
     glance-of-requires
