@@ -185,11 +185,14 @@ early-kept b c p h l same =
       kind = subst (λ x. 10 < x / 8) (same (h .place) (omega arith)) (h .kind);
     }
 
--- zeros behind a buffer: any place of them
+-- zeros, put behind a buffer
 zero-at : (n i : ℕ) → _≡_ {A = ℕ} (getD (replicate n 0) i 0) 0
 zero-at zero i = refl
 zero-at (suc n) zero = refl
 zero-at (suc n) (suc i) = zero-at n i
+
+pub zeros-bytes : (n : ℕ) → AreBytes (replicate n 0)
+zeros-bytes n = record { below = λ i. rw (zero-at n i) (omega arith) }
 
 module _ (b : List ℕ) (p : ℕ) where
   -- zeros in place of what is missing make a tree
@@ -215,7 +218,7 @@ module _ (b : List ℕ) (p : ℕ) where
 
       whole : (t : Raw) (next kids : ℕ) → treeAt c p ≡ got t next kids → (length b < next) ⊎ (next ≤ length b) → Cut b p
       whole t next kids f (inl h) =
-          record { more = zeros; bytes = record { below = λ i. rw (zero-at (p + 33) i) (omega arith) }; tree = t; next = next; kids = kids; reads = f; passes = h }
+          record { more = zeros; bytes = zeros-bytes (p + 33); tree = t; next = next; kids = kids; reads = f; passes = h }
       whole t next kids f (inr h) = got-bad t next kids 7 (treeAt b p) (tree-kept c b p next h (λ i g l. front i (omega arith)) t kids f) e
 
       early : (h : Early c p) → (h .place < length b) ⊎ (length b ≤ h .place) → Cut b p
