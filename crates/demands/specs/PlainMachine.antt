@@ -47,8 +47,8 @@ pub record AsPlain (b : List ℕ) (k : ℕ) (parts symbols : List ℕ) : Type 0 
   -- `last_span` of all
   pub lastSpans : (first : Walk) → IsFresh k first → (r : LastSpan) → lastOf r ≡ lastSpan b k parts symbols (walkOf first)
       → lastOf r ≡ one (endSpan (listRead b k parts symbols .tree (k - 1)))
-  -- … and of each tree n and what it holds, m being the number behind these, from tree s of these on: "The last span of a nonempty subtree is that of its
-  -- last descendant; of an empty one, its close"
+  -- … and of tree n and what it holds, trees n to m - 1, m being where a step past it leads; all of them or from tree s on, as n + 1 after `advance`.
+  -- "The last span of a nonempty subtree is that of its last descendant; of an empty one, its close"
   pub lastWithin : (n m s : ℕ) → n < k → m ≡ plainWalkGo wordShape (listRead b k parts symbols) skip n → n ≤ s → s < m
       → (w : Walk) → walkOf w ≡ record { place = listRead b k parts symbols .place s; number = s; left = m - s }
       → (r : LastSpan) → lastOf r ≡ lastSpan b k parts symbols (walkOf w)

@@ -177,7 +177,7 @@ module _ {Tree : Type 0} (S : Shape Tree) (R : Reader Tree) (L : Listing Tree) (
       let w : freshWalk R ≡ upTo (L .k) 0 = simp (rd .first, z) in
       rw w (last-is (L .k) (omega arith) (R .trees + 1) 0 (omega arith) h (λ i x y s. ne .inList i y s))
 
-  -- of tree n and what it holds, m being the number behind these
+  -- of tree n and what it holds, trees n to m - 1
   module _ (n m : ℕ) (h : n < L .k) (d : m ≡ plainWalkGo S L skip n) where
     behind : n < m
     behind = go (sub S L n) refl
@@ -204,7 +204,7 @@ module _ {Tree : Type 0} (S : Shape Tree) (R : Reader Tree) (L : Listing Tree) (
             let j : n ≡ i = omega arith in
             true-false (sub S L i) z (ap (sub S L) (sym j) ∙ e)
 
-    -- from tree s of these on it is that of the last one: a leaf's own, a subtree's that of its last descendant, an empty one's its own
+    -- all of them or from tree s on: that of the last one
     pub last-within : (s : ℕ) → n ≤ s → s < m → lastTree S R (upTo m s) ≡ one (L .tree (m - 1))
     last-within s g l =
         let k : m ≤ L .k = subst (λ x. x ≤ L .k) (sym d) (lands S R L kids rd ne skip n h) in

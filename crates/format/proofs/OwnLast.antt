@@ -30,8 +30,8 @@ module _ (b : List ℕ) (k : ℕ) (parts symbols : List ℕ) (ok : bufferCheck b
       let T = ownTables parts symbols in
       admitted-reads wordShape (reader b k T) (forward wordShape (T .words) b k (rules T)) (own-sound b k parts symbols ok)
 
-  -- "The last span of a nonempty subtree is that of its last descendant; of an empty one, its close": of the trees from s on that tree n holds or is, m being
-  -- the number behind these
+  -- "The last span of a nonempty subtree is that of its last descendant; of an empty one, its close": of tree n and what it holds, trees n to m - 1, m being
+  -- where a step past it leads; all of them or from tree s on
   pub own-last-within : (n m s : ℕ) → n < k → m ≡ plainWalkGo wordShape L skip n → n ≤ s → s < m
       → lastSpan b k parts symbols (record { place = L .place s; number = s; left = m - s }) ≡ one (endSpan (L .tree (m - 1)))
   unfolding ownReader

@@ -17,7 +17,8 @@ use Rattle.format.specs.Tree.{Raw, punct, need, identOf, literalOf, clos
 use Rattle.format.proofs.Tally.{lt-or-le}
 use Rattle.format.proofs.TreeBounds.{Spanned, span-within, Symboled, symbol-within, Ended, tree-ended}
 use Rattle.format.proofs.RootForm.{SpanSize, span-size, no-extra}
-use Rattle.format.proofs.Local.{span-kept, tree-kept}
+use Rattle.format.proofs.Local.{span-kept}
+use Rattle.format.proofs.TreeKept.{tree-kept}
 
 module _ (b : List ℕ) where
   -- "buffer ends inside a tree or before a due one": with some bytes behind its own a tree is read at p, and it ends behind the buffer
@@ -145,7 +146,7 @@ module _ (b : List ℕ) where
   after p SpanRead.short i y x = inl (refl, omega arith)
 
   -- a tree with 33 bytes of buffer from its place on is read, or refused early
-  pub why : (p r : ℕ) → treeAt b p ≡ bad r → ((r ≡ 7) × (length b < p + 33)) ⊎ ((r ≡ 2) × Early p)
+  why : (p r : ℕ) → treeAt b p ≡ bad r → ((r ≡ 7) × (length b < p + 33)) ⊎ ((r ≡ 2) × Early p)
   unfolding treeAt
   why p r e = subst (Why p) e (after p (spanAt b p) refl (span-within b p) (span-size b p))
 

@@ -19,7 +19,7 @@ module _ (b : List ℕ) (k : ℕ) (parts symbols : List ℕ) (ok : bufferCheck b
   abbrev L : Listing (List ℕ)
   L = listing wordShape (ownReader b k parts symbols)
 
-  -- of the trees from s on that tree n holds or is, m being the number behind these: that of the last one
+  -- of trees n to m - 1, which are tree n and what it holds, all of them or from tree s on: that of the last one
   pub within-rule : (n m s : ℕ) → n < k → m ≡ plainWalkGo wordShape L skip n → n ≤ s → s < m
       → (w : Walk) → walkOf w ≡ record { place = L .place s; number = s; left = m - s }
       → (r : LastSpan) → lastOf r ≡ lastSpan b k parts symbols (walkOf w) → lastOf r ≡ one (endSpan (L .tree (m - 1)))
