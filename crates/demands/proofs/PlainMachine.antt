@@ -10,6 +10,7 @@ use Rattle.tree.specs.declared.refusal.Verdict.the-variants.{Passed}
 use Rattle.checker.proofs.Admits.{passes}
 use Rattle.walk.specs.Run.{Ran}
 use Rattle.walk.proofs.WalkRule.{fresh-is, walk-rule, pass-rule, last-rule}
+use Rattle.walk.proofs.LastRule.{within-rule}
 use Rattle.cursor.proofs.CursorRule.{cursor-rule, fresh-rule}
 use Rattle.demands.specs.PlainMachine.{AsPlain}
 
@@ -23,6 +24,7 @@ passed-plain b k parts symbols r says e =
       walks = λ first f cs ss ran. walk-rule b k parts symbols ok first (fresh-is b k parts symbols first f) cs ss ran;
       passing = λ first f cs ss ran s singly. pass-rule b k parts symbols ok first (fresh-is b k parts symbols first f) cs ss ran s singly;
       lastSpans = λ first f. last-rule b k parts symbols ok first (fresh-is b k parts symbols first f) [] [] tt;
+      lastWithin = within-rule b k parts symbols ok;
       cursors = fresh-rule b k parts symbols ok;
       lent = cursor-rule b k parts symbols ok;
     }

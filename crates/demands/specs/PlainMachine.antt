@@ -1,5 +1,5 @@
 -- DEMAND 3 as one statement on what the functions of crates `walk` and `cursor` return over one buffer, by their contracts.
-use Prim.Native.Nat.{ℕ, _+_, _-_, _<_}
+use Prim.Native.Nat.{ℕ, _+_, _-_, _≤_, _<_}
 use mathlib.Core.Bool.{true}
 use mathlib.Core.Path.{_≡_}
 use mathlib.Core.List.{List, map}
@@ -8,7 +8,7 @@ use Rattle.format.specs.Reader.{Answer, one}
 use Rattle.format.specs.Walk.{WalkCall, advance, skip}
 use Rattle.format.specs.Cursor as calls
 use Rattle.format.specs.Cursor.{CursorCall}
-use Rattle.format.specs.Plain.{Listing, sub, plainWalkRun, plainCursorRun, freshState}
+use Rattle.format.specs.Plain.{Listing, sub, plainWalkGo, plainWalkRun, plainCursorRun, freshState}
 use Rattle.format.specs.Check.{listing}
 use Rattle.format.specs.Buffer.{wordShape, ownReader}
 use Rattle.format.specs.LastSpan.{endSpan, lastSpan}
@@ -44,9 +44,15 @@ pub record AsPlain (b : List ℕ) (k : ℕ) (parts symbols : List ℕ) : Type 0 
       → Stepped b k parts symbols skip (walkAfter first ss) s
       → walk.Ran b k parts symbols (replicate (1 + wordShape .count (listRead b k parts symbols .tree (walkAfter first ss .number))) advance) (walkAfter first ss) singly
       → walkOf (s .walk) ≡ walkOf (walkAfter (walkAfter first ss) singly)
-  -- `last_span`
+  -- `last_span` of all
   pub lastSpans : (first : Walk) → IsFresh k first → (r : LastSpan) → lastOf r ≡ lastSpan b k parts symbols (walkOf first)
       → lastOf r ≡ one (endSpan (listRead b k parts symbols .tree (k - 1)))
+  -- … and of tree n and what it holds, trees n to m - 1, m being where a step past it leads; all of them or from tree s on, as n + 1 after `advance`.
+  -- "The last span of a nonempty subtree is that of its last descendant; of an empty one, its close"
+  pub lastWithin : (n m s : ℕ) → n < k → m ≡ plainWalkGo wordShape (listRead b k parts symbols) skip n → n ≤ s → s < m
+      → (w : Walk) → walkOf w ≡ record { place = listRead b k parts symbols .place s; number = s; left = m - s }
+      → (r : LastSpan) → lastOf r ≡ lastSpan b k parts symbols (walkOf w)
+      → lastOf r ≡ one (endSpan (listRead b k parts symbols .tree (m - 1)))
   -- `bump`, `end`, `bump_or_end`, `token_tree`, `peek_two_leaves`, the cursor by value
   pub cursors : (cs : List CursorCall) (rs : List (Answer TokenTree × Held)) → cursor.Ran b k parts symbols cs (held freshCursor) rs
       → map inWords rs ≡ plainCursorRun wordShape (listRead b k parts symbols) cs freshState

@@ -10,10 +10,10 @@ use Rattle.format.specs.Test.{if_then_else_}
 use Rattle.format.specs.Reader.{Shape, Reader, Reply, got, bad, Answer, done, none, one, two, refused}
 use Rattle.format.specs.Walk.{Walk, WalkCall, advance, skip, walkFits, walkRead, walkStep, freshWalk}
 use Rattle.format.specs.LastSpan.{lastAfter, lastFor, lastTree}
-use Rattle.format.specs.Plain.{Listing, endOf, sub}
+use Rattle.format.specs.Plain.{Listing, endOf, sub, plainWalkGo}
 use Rattle.format.specs.Laws.{Nested, Reads}
 use Rattle.format.proofs.Each.{true-false}
-use Rattle.format.proofs.WalkRun.{places, place-le}
+use Rattle.format.proofs.WalkRun.{place-le, lands}
 
 module _ {Tree : Type 0} (S : Shape Tree) (R : Reader Tree) where
   -- ---- a step that hands back a tree leaves fewer trees
@@ -177,21 +177,39 @@ module _ {Tree : Type 0} (S : Shape Tree) (R : Reader Tree) (L : Listing Tree) (
       let w : freshWalk R ≡ upTo (L .k) 0 = simp (rd .first, z) in
       rw w (last-is (L .k) (omega arith) (R .trees + 1) 0 (omega arith) h (λ i x y s. ne .inList i y s))
 
-  -- of a subtree and what it holds
-  pub last-subtree : (n : ℕ) → n < L .k → sub S L n ≡ true → lastTree S R (upTo (endOf S L n) n) ≡ one (L .tree (endOf S L n - 1))
-  last-subtree n h s =
-      last-is (endOf S L n) (ne .inList n h s) (endOf S L n - n + 1) n (omega arith) (omega arith) (λ i x y z. inner i x y z (eqb i n) refl)
-    where
-      inner : (i : ℕ) → n ≤ i → i < endOf S L n → sub S L i ≡ true → (b : Bool) → eqb i n ≡ b → endOf S L i ≤ endOf S L n
-      inner i x y z true e = let q = eqb-true i n e in rw q (omega arith)
-      inner i x y z false e =
-          let d = eqb-false i n e in
-          let k = ne .inList n h s in
-          ne .inOther n i (omega arith) (omega arith) y s z
+  -- of tree n and what it holds, trees n to m - 1
+  module _ (n m : ℕ) (h : n < L .k) (d : m ≡ plainWalkGo S L skip n) where
+    behind : n < m
+    behind = go (sub S L n) refl
+      where
+        go : (a : Bool) → sub S L n ≡ a → n < m
+        go true e = let f : m ≡ endOf S L n = rw e at d in omega arith
+        go false e = let f : m ≡ n + 1 = rw e at d in omega arith
 
-  -- of what it holds, if anything
-  pub last-inside : (n : ℕ) → n < L .k → sub S L n ≡ true → 0 < S .count (L .tree n) → lastTree S R (upTo (endOf S L n) (n + 1)) ≡ one (L .tree (endOf S L n - 1))
-  last-inside n h s z =
-      let k = ne .inList n h s in
-      last-is (endOf S L n) k (endOf S L n - (n + 1) + 1) (n + 1) (omega arith) (omega arith)
-      (λ i x y t. ne .inOther n i (omega arith) (omega arith) y s t)
+    held : (i : ℕ) → n ≤ i → i < m → sub S L i ≡ true → endOf S L i ≤ m
+    held i x y z = go (sub S L n) (eqb i n) refl refl
+      where
+        go : (a b : Bool) → sub S L n ≡ a → eqb i n ≡ b → endOf S L i ≤ m
+        go true true e q =
+            let f : m ≡ endOf S L n = rw e at d in
+            let j = eqb-true i n q in
+            rw (f, j) (omega arith)
+        go true false e q =
+            let f : m ≡ endOf S L n = rw e at d in
+            let j = eqb-false i n q in
+            let k = ne .inList n h e in
+            rw f (ne .inOther n i (omega arith) (omega arith) (omega arith) e z)
+        go false b e q =
+            let f : m ≡ n + 1 = rw e at d in
+            let j : n ≡ i = omega arith in
+            true-false (sub S L i) z (ap (sub S L) (sym j) ∙ e)
+
+    -- all of them or from tree s on: that of the last one
+    pub last-within : (s : ℕ) → n ≤ s → s < m → lastTree S R (upTo m s) ≡ one (L .tree (m - 1))
+    last-within s g l =
+        let k : m ≤ L .k = subst (λ x. x ≤ L .k) (sym d) (lands S R L kids rd ne skip n h) in
+        last-is m k (m - s + 1) s (omega arith) l (λ i x y z. held i (omega arith) y z)
+
+    -- … which is a leaf or an empty subtree
+    pub last-empty : sub S L (m - 1) ≡ true → S .count (L .tree (m - 1)) ≡ 0
+    last-empty e = let l = behind in omega (arith, held (m - 1) (omega arith) (omega arith) e)

@@ -106,7 +106,7 @@ tree-from b c p e same = tree-same b c p (p + 33) (record { size = e; same = λ 
 -- ---- buffers of any length: a span or symbol that is read from some bytes is read wherever these stand at the place
 
 module _ (b c : List ℕ) (p q : ℕ) (room : q ≤ length c) (same : (i : ℕ) → p ≤ i → i < q → byteAt b i ≡ byteAt c i) where
-  word-kept : (i : ℕ) → p ≤ i → i + 4 ≤ q → wordAt c i ≡ wordAt b i
+  pub word-kept : (i : ℕ) → p ≤ i → i + 4 ≤ q → wordAt c i ≡ wordAt b i
   unfolding wordAt
   word-kept i h l =
       let x = same i h (omega arith) in

@@ -5,7 +5,7 @@ use mathlib.Core.Logic.{⊎-elim}
 use mathlib.Core.Path.{_≡_, refl, ap, _∙_}
 use mathlib.Core.List.{List, [], _∷_, _++_}
 use native.Mathlib.Omega.{arith}
-use lib.ListN.{take, replicate}
+use lib.ListN.{take, drop, replicate}
 use Rattle.format.specs.Verdict.{passed, refused, wrote, refusal, eachFrom}
 use Rattle.format.specs.Word.{wordAt, halfAt, put}
 use Rattle.format.specs.Span.{span, spanAt, symbolAt}
@@ -22,6 +22,7 @@ use Rattle.format.specs.Writer.{find, raws, listVerdict, writerVerdict, 
 use Rattle.format.specs.Pack.{packSpan, packSymbol, spanPacked, spanReport, symbolReport}
 use Rattle.format.specs.Write.{spanBytes, symbolBytes}
 use Rattle.format.proofs.Tally.{lt-or-le}
+use Rattle.format.proofs.Unread.{Cut, zeros-bytes}
 use Rattle.format.proofs.NestRun.{run-done, run-four, run-sub, nest-as-run}
 use Rattle.format.proofs.Worked.{spanOf, loneRoot, twoParts, rootWords, plus, parens}
 use Rattle.format.proofs.Samples.{threeParts}
@@ -116,6 +117,20 @@ row-7 : (bufferCheck (take 20 loneRoot) 1 twoParts [] ≡ refused 7 0) × (buffe
     × (bufferCheck (around 5 ++ (0 ∷ 0 ∷ 0 ∷ 0 ∷ 0x57 ∷ [])) 2 threeParts [] ≡ refused 7 1)
 unfolding check eachFrom placeOf ownReader judge treeWords treeAt afterSpan controlled spanAt symbolAt wordAt
 row-7 = (refl, refl, refl)
+
+-- … with its other 13 bytes, which are zeros, that root is read
+root-cut : Cut (take 20 loneRoot) 0
+unfolding treeAt afterSpan controlled spanAt wordAt
+root-cut =
+    record {
+      more = drop 20 loneRoot;
+      bytes = zeros-bytes 13;
+      tree = subtree (spanOf 0 0 0) (spanOf 1 0 0) 0 3;
+      next = 33;
+      kids = 0;
+      reads = refl;
+      passes = omega arith;
+    }
 
 -- 2 in a buffer: a long literal kind above 10 as soon as its control byte is read; a root in another form; spacing 3
 row-2-read : (bufferCheck (around 5 ++ (0 ∷ 0 ∷ 0 ∷ 0 ∷ 0x5F ∷ [])) 2 threeParts [] ≡ refused 2 1)

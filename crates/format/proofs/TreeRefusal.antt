@@ -1,7 +1,7 @@
 -- Which row refuses a tree that is read and judged: "tree by tree 7, 2, 8".
 use Prim.Native.Nat.{ℕ, _+_}
 use mathlib.Core.Bool.{Bool, true, false}
-use mathlib.Core.Path.{_≡_, refl, sym, ap, _∙_, subst}
+use mathlib.Core.Path.{_≡_, refl, sym, _∙_, subst}
 use mathlib.Core.List.{List}
 use mathlib.Core.Logic.{_⊎_, inl, inr, ⊎-elim}
 use native.Mathlib.Omega.{arith}
@@ -18,7 +18,7 @@ use Rattle.format.specs.Tables.{TableRules, Limits, indexedBelow, indexe
 use Rattle.format.specs.Buffer.{formed, judge, readerAs, wordShape, rawShape, ownReader, bufferCheck, sizeReader}
 use Rattle.format.proofs.CheckRefusal.{Refused, check-refusal, refused-check}
 use Rattle.format.proofs.RootForm.{Form, root-form, form-root}
-use Rattle.format.proofs.Unread.{Early, unread, early-two}
+use Rattle.format.proofs.Unread.{Cut, Early, unread, cut-seven, early-two}
 
 module _ {A : Type 0} (show : ℕ → Raw → A) (T : TableRules) (n p : ℕ) where
   -- tree n at place p, of which this was read: its bytes, then its form and fields, then its indices
@@ -75,7 +75,7 @@ module _ (b : List ℕ) (p : ℕ) (t : Raw) (next kids : ℕ) (e : treeAt b p �
 
 module _ (b : List ℕ) (N : Limits) (n p : ℕ) where
   pub data TreeRow : ℕ → Type 0 where
-    cut : treeAt b p ≡ bad 7 → TreeRow 7
+    cut : Cut b p → TreeRow 7
     early : Early b p → TreeRow 2
     form : (t : Raw) (next kids : ℕ) → treeAt b p ≡ got t next kids → formed n p next ≡ false → TreeRow 2
     field : (t : Raw) (next kids : ℕ) → treeAt b p ≡ got t next kids → formed n p next ≡ true → fields t ≡ false → TreeRow 2
@@ -85,7 +85,7 @@ module _ (b : List ℕ) (N : Limits) (n p : ℕ) where
   module _ {A : Type 0} (show : ℕ → Raw → A) (T : TableRules) (eight : (t : Raw) → T .judged n t ≡ rowEight N n t) where
     tree-row-of : (x : Reply Raw) (r : ℕ) → treeAt b p ≡ x → Row show T n p x r → TreeRow r
     tree-row-of x r e (bytes a) =
-        ⊎-elim (λ i. subst TreeRow (sym i) (cut (e ∙ ap bad i))) (λ i. subst TreeRow (sym (i .0)) (early (i .1))) (unread b p a e)
+        ⊎-elim (λ i. subst TreeRow (sym (i .0)) (cut (i .1))) (λ i. subst TreeRow (sym (i .0)) (early (i .1))) (unread b p a e)
     tree-row-of x r e (shape t q k f) = form t q k e f
     tree-row-of x r e (range t q k f g) = field t q k e f g
     tree-row-of x r e (table t q k f g h) = go _ refl
@@ -99,7 +99,7 @@ module _ (b : List ℕ) (N : Limits) (n p : ℕ) where
 
     pub row-tree : (r : ℕ) → TreeRow r → judge show T n p (treeAt b p) ≡ bad r
     unfolding judge
-    row-tree r (cut e) = rw e
+    row-tree r (cut h) = rw (cut-seven b p h)
     row-tree r (early h) = rw (early-two b p h)
     row-tree r (form t q k e f) = rw e (simp f)
     row-tree r (field t q k e f g) = rw e (simp (f, g))

@@ -3,3 +3,4 @@ pub mod WalkWords
 pub mod WalkReturns
 pub mod LastReturns
 pub mod WalkRule
+pub mod LastRule
