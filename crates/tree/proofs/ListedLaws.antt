@@ -7,7 +7,8 @@ use native.Mathlib.Omega.{arith}
 use borrow.Author.Tests.{le-leb, lt-leb, leb-true, eq-eqb, ne-eqb, not-true, not-false}
 use lib.Dec.{leb, eqb}
 use Rattle.format.specs.Test.{if_then_else_}
-use Rattle.format.specs.Fields.{fields, isRawKind}
+use Rattle.format.specs.Fields.{fields}
+use Rattle.format.specs.Tree.{isRawKind}
 use Rattle.format.specs.WordList.{wordOf, rawFrom, noClose, wordFields}
 use Rattle.tree.specs.Raw.{punctRaw, identRaw, literalRaw, subtreeRaw}
 use Rattle.pack.specs.declared.span.PackedSpan.{PackedSpan}

@@ -9,7 +9,8 @@ use lib.Dec.{leb, eqb}
 use lib.ListN.{length}
 use Rattle.format.specs.Test.{if_then_else_}
 use Rattle.format.specs.Span as format
-use Rattle.format.specs.Fields.{spanFits, isScalar, isRawKind, fields}
+use Rattle.format.specs.Fields.{spanFits, isScalar, fields}
+use Rattle.format.specs.Tree.{isRawKind}
 use Rattle.format.specs.WordList.{wordOf, thirteen, rawFrom, noClose, wordFields}
 use Rattle.format.proofs.Each.{and-left, and-right, and₃, and₄}
 use Rattle.tree.specs.Types.{spacingOf, isRawOf, delimiterOf, litKindOf, spacingWord, isRawWord, delimiterWord, litKindWord, treeWordsOf}

@@ -7,7 +7,8 @@ use borrow.Author.Tests.{leb-true}
 use lib.Dec.{leb, eqb}
 use Rattle.format.specs.Test.{if_then_else_}
 use Rattle.format.specs.Span as format
-use Rattle.format.specs.Fields.{spanFits, isScalar, isRawKind, fields}
+use Rattle.format.specs.Fields.{spanFits, isScalar, fields}
+use Rattle.format.specs.Tree.{isRawKind}
 use Rattle.format.specs.WordList.{rawFrom, noClose, wordFields}
 use Rattle.format.proofs.Each.{and-right, and₃, and₄}
 

@@ -5,10 +5,9 @@ use lib.ListN.{getD}
 use mathlib.Core.Bool.{_&&_}
 use lib.Dec.{leb, eqb}
 use Rattle.format.specs.Test.{if_then_else_}
-use Rattle.format.specs.Fields.{isRawKind}
+use Rattle.format.specs.Tree.{isRawKind, Raw, punct, ident, literal, subtree}
 use Rattle.format.specs.Span as format
 use Rattle.format.specs.Root.{WordSpan}
-use Rattle.format.specs.Tree.{Raw, punct, ident, literal, subtree}
 use Rattle.tree.specs.declared.types.Span.{Span}
 use Rattle.tree.specs.declared.types.Spacing.{Spacing}
 use Rattle.tree.specs.declared.types.Spacing.the-variants.{Alone, Joint, JointHidden}
