@@ -12,11 +12,10 @@ use Rattle.format.specs.Test.{if_then_else_}
 use Rattle.format.specs.Verdict.{passed, refused}
 use Rattle.format.specs.Width.{treeSize}
 use Rattle.format.specs.WordList.{listCount}
-use Rattle.format.specs.Holding.{holdingAll}
-use Rattle.format.specs.Builder.{subAt, disagrees, ready, oneInside, buildList, innerList, written, build, buildSkipTopSubtree}
+use Rattle.format.specs.Builder.{holdingAll, subAt, disagrees, ready, oneInside, buildList, innerList, written, build, buildSkipTopSubtree}
 use Rattle.format.specs.Builder as format
 use Rattle.format.proofs.Each.{and-left, rule-passed}
-use Rattle.format.proofs.BuilderRestore.{Agrees, agrees-is}
+use Rattle.builder.proofs.BuilderRestore.{Agrees, agrees-is}
 use Rattle.tree.specs.Refusal.{verdictAnswer, reportAnswer}
 use Rattle.tree.proofs.Answers.{answer-passed, answer-refused}
 use Rattle.tree.specs.declared.refusal.Refusal.{Refusal}

@@ -1,3 +1,10 @@
+-- ---- of the definitions: what is in the run, what is built, what is restored
+pub mod Trees
+pub mod Forest
+pub mod Framed
+pub mod BuilderRun
+pub mod BuilderBuild
+pub mod BuilderRestore
 -- ---- one law for each return
 pub mod StateReturns
 pub mod RangeReturns

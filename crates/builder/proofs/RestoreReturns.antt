@@ -15,7 +15,7 @@ use Rattle.format.specs.WordList.{listCount}
 use Rattle.format.specs.Builder.{subAt, disagrees, isAmong, openBefore, reachesPast, pointFits, pointVerdict, restorePoint, restoreVerdict, restore}
 use Rattle.format.specs.Builder as format
 use Rattle.format.proofs.Each.{both, rule-passed}
-use Rattle.format.proofs.BuilderRestore.{Agrees, agrees-is}
+use Rattle.builder.proofs.BuilderRestore.{Agrees, agrees-is}
 use Rattle.tree.specs.Refusal.{verdictAnswer}
 use Rattle.tree.proofs.Answers.{answer-passed, answer-refused}
 use Rattle.tree.specs.declared.refusal.Refusal.{Refusal}

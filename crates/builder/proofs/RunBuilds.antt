@@ -11,8 +11,8 @@ use Rattle.format.specs.Verdict.{passed, refused, refusal, rule}
 use Rattle.format.specs.WordList.{listRows}
 use Rattle.format.specs.Builder.{new, Step, builderFrom, disagrees, ready, build, buildSkipTopSubtree, written}
 use Rattle.format.specs.Builder as format
-use Rattle.format.specs.Frames.{Model, modelFrom, modelList, modelSkip}
-use Rattle.format.proofs.BuilderBuild.{run-build, run-build-skip, run-rows, run-skip-rows}
+use Rattle.builder.specs.Frames.{Model, modelFrom, modelList, modelSkip}
+use Rattle.builder.proofs.BuilderBuild.{run-build, run-build-skip, run-rows, run-skip-rows}
 use Rattle.tree.specs.Refusal.{reportAnswer}
 use Rattle.tree.specs.Types.{wordsOf}
 use Rattle.tree.specs.declared.refusal.Report.{Report}

@@ -6,11 +6,11 @@ use mathlib.Core.List.{List, [], _∷_}
 use lib.ListN.{length, take}
 use Rattle.format.specs.Verdict.{Verdict, passed, refused, contents}
 use Rattle.format.specs.Width.{treeSize}
-use Rattle.format.specs.Builder.{disagrees, noBuilder, newBuilder, newVerdict, new, pointVerdict, restorePoint, Step, restore, builderStep, builderRun, staysInside, builderFrom}
+use Rattle.format.specs.Builder.{disagrees, noBuilder, newBuilder, newVerdict, new, pointVerdict, restorePoint, Step, restore, builderStep, builderRun, builderFrom}
 use Rattle.format.specs.Builder as format
-use Rattle.format.specs.Frames.{accepted}
-use Rattle.format.proofs.BuilderBuild.{always-agrees}
-use Rattle.format.proofs.BuilderRestore.{Restored, restore-after}
+use Rattle.builder.specs.Frames.{accepted, staysInside}
+use Rattle.builder.proofs.BuilderBuild.{always-agrees}
+use Rattle.builder.proofs.BuilderRestore.{Restored, restore-after}
 use Rattle.tree.specs.Refusal.{verdictAnswer}
 use Rattle.tree.specs.Types.{wordsOf}
 use Rattle.tree.proofs.Answers.{answer-passed}

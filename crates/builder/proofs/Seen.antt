@@ -15,9 +15,9 @@ use Rattle.format.specs.Part.{WordSpan}
 use Rattle.format.specs.Builder.{openFit, subAt, disagrees, reachesPast, butLast, openBefore, pointFits, openVerdict, restoreVerdict, restored, Step, push, openSubtree, closeSubtree, restore, stepVerdict, stepBuilder, stepWords, builderStep}
 use Rattle.format.specs.Builder as format
 use Rattle.format.proofs.Each.{and₄, both, rule-passed}
-use Rattle.format.proofs.Framed.{Below, below-more, all-before}
-use Rattle.format.proofs.BuilderRun.{after-step}
-use Rattle.format.proofs.BuilderRestore.{Agrees, agrees-is, fit-below}
+use Rattle.builder.proofs.Framed.{Below, below-more, all-before}
+use Rattle.builder.proofs.BuilderRun.{after-step}
+use Rattle.builder.proofs.BuilderRestore.{Agrees, agrees-is, fit-below}
 use Rattle.tree.specs.Refusal.{verdictAnswer}
 use Rattle.tree.proofs.Answers.{answer-refused}
 use Rattle.tree.specs.declared.refusal.Refusal.{Refusal}

@@ -16,9 +16,9 @@ use Rattle.format.specs.Root.{rangeFits}
 use Rattle.format.specs.Builder.{subtreeWords, leafFits, disagrees, newVerdict, new, agreed, room, pushVerdict, openVerdict, closeVerdict, closeLast, Step, push, openSubtree, closeSubtree, stepVerdict, stepWords, builderStep}
 use Rattle.format.specs.Builder as format
 use Rattle.format.proofs.Each.{both, rule-passed}
-use Rattle.format.proofs.Framed.{Below}
-use Rattle.format.proofs.BuilderRun.{after-step}
-use Rattle.format.proofs.BuilderRestore.{Agrees, agrees-is, fit-below}
+use Rattle.builder.proofs.Framed.{Below}
+use Rattle.builder.proofs.BuilderRun.{after-step}
+use Rattle.builder.proofs.BuilderRestore.{Agrees, agrees-is, fit-below}
 use Rattle.tree.specs.Types.{wordsOf}
 use Rattle.tree.specs.Refusal.{verdictAnswer}
 use Rattle.tree.proofs.Answers.{answer-passed, answer-refused}

@@ -9,16 +9,17 @@ use lib.Dec.{leb}
 use lib.ListN.{length}
 use Rattle.format.specs.Verdict.{Verdict, refused}
 use Rattle.format.specs.Reader.{Shape, Reader}
-use Rattle.format.specs.Nest.{nest, run}
+use Rattle.format.specs.Nest.{nest}
+use Rattle.format.proofs.NestRun.{run}
 use Rattle.format.specs.Check.{placeOf, reading, listing, readRule, check}
-use Rattle.format.specs.Descent.{LeafAt, SubtreeAt, Upto, Unnests, ReadTo, afterSizes}
-use Rattle.format.specs.Sight.{sight}
 use Rattle.format.specs.Width.{partSize}
 use Rattle.format.specs.Tables.{TableRules, rowEight, tablesSized, ownLimits, countRules}
 use Rattle.format.specs.Buffer.{rawShape, rawReader, sizeReader, wordShape, ownReader, bufferCheck}
 use Rattle.format.proofs.Each.{and-left, and-right}
-use Rattle.format.proofs.Sight.{seen-leaf, seen-subtree, seen-unread}
-use Rattle.format.proofs.Descent.{upto-start, upto-more, upto-unread, upto-unnests, upto-leaf, upto-bad, sub-three, sub-four, sub-unread, sub-unnests, sub-honest, sub-wrong, nest-run, nest-flat, nest-short, read-start, read-on, read-bad, read-end, all-unread, left-over, all-unnested, through-left, through-wrong, through-passed, check-unsized, check-sized}
+use Rattle.format.proofs.Sight.{sight}
+use Rattle.checker.specs.Descent.{LeafAt, SubtreeAt, Upto, Unnests, ReadTo, afterSizes}
+use Rattle.checker.proofs.Seen.{seen-leaf, seen-subtree, seen-unread}
+use Rattle.checker.proofs.Descent.{upto-start, upto-more, upto-unread, upto-unnests, upto-leaf, upto-bad, sub-three, sub-four, sub-unread, sub-unnests, sub-honest, sub-wrong, nest-run, nest-flat, nest-short, read-start, read-on, read-bad, read-end, all-unread, left-over, all-unnested, through-left, through-wrong, through-passed, check-unsized, check-sized}
 use Rattle.format.proofs.RawReader.{own-check}
 use Rattle.tree.specs.Mode.{limitsOf}
 use Rattle.tree.specs.declared.limits.Limits.{Limits}

@@ -8,7 +8,7 @@ use Rattle.format.specs.Tree.{Raw, treeAt}
 use Rattle.tree.specs.Mode.{limitsOf}
 use Rattle.decode.specs.Judge.{limitRules}
 use Rattle.format.specs.Buffer.{rawShape, judge}
-use Rattle.format.specs.Sight.{Sight, leaf, subtree, unread, sight}
+use Rattle.format.proofs.Sight.{Sight, leaf, subtree, unread, sight}
 use Rattle.tree.specs.Raw.{rawOf, rawAnswer}
 use Rattle.tree.specs.declared.raw.RawPunct.{RawPunct}
 use Rattle.tree.specs.declared.raw.RawIdent.{RawIdent}

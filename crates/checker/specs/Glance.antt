@@ -4,9 +4,9 @@ use mathlib.Core.List.{List}
 use Rattle.format.specs.Reader.{Reader}
 use Rattle.format.specs.Tree.{Raw}
 use Rattle.format.specs.Buffer.{rawShape, rawReader}
-use Rattle.format.specs.Sight.{Sight, leaf, subtree, unread, sight}
 use Rattle.tree.specs.Mode.{limitsOf}
 use Rattle.decode.specs.Judge.{limitRules}
+use Rattle.format.proofs.Sight.{Sight, leaf, subtree, unread, sight}
 use Rattle.checker.specs.declared.glance.Sizes.{Sizes}
 use Rattle.checker.specs.declared.glance.Glance.{Glance}
 use Rattle.checker.specs.declared.glance.Glance.the-variants.{Leaf, Subtree, Bad}

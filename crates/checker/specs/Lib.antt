@@ -1,2 +1,3 @@
 pub mod Glance
+pub mod Descent
 pub mod Says

@@ -8,8 +8,9 @@ use Rattle.format.specs.Verdict.{Verdict, passed, refused}
 use Rattle.format.specs.Reader.{Shape, Reader}
 use Rattle.format.specs.Tables.{tablesSized}
 use Rattle.format.specs.Check.{placeOf, listing}
-use Rattle.format.specs.Nest.{run, nest}
-use Rattle.format.specs.Descent.{readRun, Upto, Unnests}
+use Rattle.format.specs.Nest.{nest}
+use Rattle.format.proofs.NestRun.{run}
+use Rattle.checker.specs.Descent.{readRun, Upto, Unnests}
 use Rattle.checker.specs.declared.check.Ran.{Ran}
 use Rattle.checker.specs.declared.check.Ran.the-variants.{Through, Stopped}
 use Rattle.checker.specs.declared.check.Stop.{Stop}

@@ -15,7 +15,7 @@ ghost use mathlib.Core.Path.{_≡_};
 ghost use Rattle.format.specs.Verdict as verdict;
 ghost use Rattle.format.specs.Check.{placeOf, check as checked};
 ghost use Rattle.format.specs.Buffer.{rawShape, sizeReader, bufferCheck};
-ghost use Rattle.format.specs.Descent.{afterSizes};
+ghost use Rattle.checker.specs.Descent.{afterSizes};
 ghost use Rattle.tree.specs.Refusal.{verdictAnswer};
 ghost use Rattle.checker.specs.Glance.{readerOf, glanceAt};
 ghost use Rattle.checker.specs.Says.{isSized, earlier, RunSays, RootSays, RootStops, Ends};

@@ -9,7 +9,7 @@ use tree::raw::RawTree;
 ghost use mathlib.Core.Path.{_≡_};
 ghost use Rattle.format.specs.Reader.{got};
 ghost use Rattle.format.specs.Buffer.{rawShape};
-ghost use Rattle.format.specs.Sight.{sight};
+ghost use Rattle.format.proofs.Sight.{sight};
 ghost use Rattle.tree.specs.Raw.{rawOf};
 ghost use Rattle.checker.specs.Glance.{glance, glanceAt};
 

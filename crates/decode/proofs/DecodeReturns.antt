@@ -9,8 +9,8 @@ use lib.Dec.{ltb, leb, eqb}
 use lib.ListN.{length, getD}
 use Rattle.format.specs.Test.{if_then_else_}
 use Rattle.format.specs.Reader.{got}
-use Rattle.format.specs.Tree.{Raw, treeAt}
-use Rattle.format.specs.Fields.{spanFits, isScalar, isRawKind, fields}
+use Rattle.format.specs.Tree.{Raw, treeAt, isRawKind}
+use Rattle.format.specs.Fields.{spanFits, isScalar, fields}
 use Rattle.format.specs.Width.{partSize}
 use Rattle.format.specs.Part.{Part, partAt}
 use Rattle.format.specs.Tables.{rules, rowEight, Mode, entryAt, modeTables, ownLimits, ownTables}

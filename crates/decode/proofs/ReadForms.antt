@@ -10,8 +10,8 @@ use Rattle.format.specs.Word.{byteAt, halfAt, wordAt}
 use Rattle.format.specs.Span.{Span, span, spanAt, symbol, symbolAt}
 use Rattle.format.specs.Span as format
 use Rattle.format.specs.Reader.{got}
-use Rattle.format.specs.Tree.{Raw, punct, subtree, identOf, literalOf, moved, distance, shortKind, shortRaw, form000, form001, form010, closed101, form110, formShort, form111, controlled, afterSpan, treeAt}
-use Rattle.format.specs.Fields.{isRawKind, fields}
+use Rattle.format.specs.Tree.{Raw, punct, subtree, identOf, literalOf, moved, distance, shortKind, shortRaw, form000, form001, form010, closed101, form110, formShort, form111, controlled, afterSpan, treeAt, isRawKind}
+use Rattle.format.specs.Fields.{fields}
 use Rattle.pack.specs.Answer.{spanOf, spanAnswer, symbolAnswer}
 use Rattle.pack.specs.declared.span.PackedSpan.{PackedSpan}
 use Rattle.pack.specs.declared.span.SpanAt.{SpanAt}

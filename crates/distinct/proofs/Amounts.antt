@@ -8,7 +8,7 @@ use lib.ListN.{length, getD, take}
 use lib.Seq.{take-suc}
 use Rattle.format.specs.Test.{if_then_else_}
 use Rattle.format.specs.Distinct.{tally}
-use Rattle.format.specs.Order.{amount}
+use Rattle.format.proofs.Tally.{amount}
 
 take-one : (w : List ℕ) (n : ℕ) → n < length w → take (suc n) w ≡ take n w ++ getD w n 0 ∷ []
 take-one w n h = take-suc w n 0 h

@@ -9,10 +9,9 @@ use lib.Dec.{ltb, eqb}
 use borrow.Author.Tests.{eqb-true, eqb-false, ltb-true, ltb-false, lt-ltb, le-ltb, lt-leb}
 use Rattle.format.specs.Test.{if_then_else_}
 use Rattle.format.specs.Distinct.{anyIn, news, hits, times}
-use Rattle.format.specs.Order.{amount}
+use Rattle.format.proofs.Tally.{amount, tally-same}
 use Rattle.format.specs.MakeTables.{keyCount, liveAt, keyWord, alikeAt, keysOf, timesOf}
 use Rattle.format.proofs.Each.{true-false, and-right}
-use Rattle.format.proofs.Tally.{tally-same}
 use Rattle.keys.specs.Keys.{classOf, liveIn}
 use Rattle.keys.proofs.KeyReturns.{class-same}
 use Rattle.slots.proofs.HashLaw.{mix-lt}

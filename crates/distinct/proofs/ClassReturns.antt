@@ -10,9 +10,8 @@ use lib.Seq.{getD-set-same, getD-set-other, take-all}
 use lib.Dec.{ltb}
 use Rattle.format.specs.Test.{if_then_else_}
 use Rattle.format.specs.Distinct.{tally, news}
-use Rattle.format.specs.Order.{amount}
+use Rattle.format.proofs.Tally.{amount, lt-or-le, lt-ne, tally-all, tally-same, amount-all}
 use Rattle.format.specs.MakeTables.{alikeAt, keyCount, limitOf, keysOf, timesOf}
-use Rattle.format.proofs.Tally.{lt-or-le, lt-ne, tally-all, tally-same, amount-all}
 use Rattle.format.proofs.NewsLaw.{news-live}
 use Rattle.format.proofs.TableKeys.{keys-many, keys-most}
 use Rattle.keys.specs.Keys.{classOf, liveIn}

@@ -6,7 +6,7 @@ use mathlib.Core.List.{List}
 use lib.ListN.{length, getD}
 use lib.Dec.{ltb}
 use Rattle.format.specs.Distinct.{tally, news}
-use Rattle.format.specs.Order.{amount}
+use Rattle.format.proofs.Tally.{amount}
 use Rattle.format.specs.MakeTables.{alikeAt, keyCount, keysOf, timesOf}
 use Rattle.keys.specs.Keys.{classOf, liveIn}
 use Rattle.keys.specs.Runs.{Behind}

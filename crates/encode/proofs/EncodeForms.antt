@@ -9,8 +9,7 @@ use lib.Dec.{ltb, leb, eqb}
 use lib.ListN.{length}
 use Rattle.format.specs.Word.{wordBytes, put}
 use Rattle.format.specs.Span.{Span}
-use Rattle.format.specs.Tree.{punct, literal, subtree}
-use Rattle.format.specs.Fields.{isRawKind}
+use Rattle.format.specs.Tree.{punct, literal, subtree, isRawKind}
 use Rattle.format.specs.Write.{join, byte, spanBytes, symbolBytes, shortBase, near, bytes000, bytes001, bytes010, bytes101, literalBytes, subtreeBytes, treeBytes}
 use Rattle.format.proofs.Each.{and-left, and-right, and₄}
 use Rattle.format.proofs.TreeBack.{near-true}

@@ -11,8 +11,8 @@ use Rattle.format.specs.Test.{if_then_else_}
 use Rattle.format.specs.Verdict.{passed, _andThen_, rule}
 use Rattle.format.specs.Word.{put}
 use Rattle.format.specs.Span.{Span}
-use Rattle.format.specs.Tree.{Raw, subtree}
-use Rattle.format.specs.Fields.{spanFits, isScalar, isRawKind, fields}
+use Rattle.format.specs.Tree.{Raw, subtree, isRawKind}
+use Rattle.format.specs.Fields.{spanFits, isScalar, fields}
 use Rattle.format.specs.Write.{join, spanBytes, symbolBytes, rootBytes, treeBytes}
 use Rattle.format.specs.Pack.{roomFor}
 use Rattle.format.proofs.Each.{both, rule-passed, and-left, and-right, and₃, and₄}

@@ -8,8 +8,7 @@ use lib.Dec.{ltb, leb, eqb}
 use lib.ListN.{length, length-append}
 use Rattle.format.specs.Test.{if_then_else_}
 use Rattle.format.specs.Span.{Span}
-use Rattle.format.specs.Tree.{punct, ident, literal, subtree}
-use Rattle.format.specs.Fields.{isRawKind}
+use Rattle.format.specs.Tree.{punct, ident, literal, subtree, isRawKind}
 use Rattle.format.specs.Write.{spanBytes, symbolBytes, shortBase, near, fits000, fits001, fits010, literalBytes, subtreeBytes, treeBytes}
 use Rattle.format.proofs.Each.{and-right}
 use Rattle.format.proofs.TreeBack.{near-true}

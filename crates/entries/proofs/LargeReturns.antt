@@ -6,9 +6,8 @@ use mathlib.Core.List.{List}
 use native.Mathlib.Omega.{arith}
 use lib.ListN.{length, getD}
 use lib.Seq.{take-all}
-use Rattle.format.specs.Order.{amount}
+use Rattle.format.proofs.Tally.{amount, tally-same}
 use Rattle.format.specs.MakeTables.{keyCount, keysOf, timesOf, tableCounts}
-use Rattle.format.proofs.Tally.{tally-same}
 use Rattle.format.proofs.TableKeys.{keys-many, keys-most, counts-many}
 use Rattle.keys.specs.Runs.{Room}
 use Rattle.entries.specs.Runs.{Made, MadeIf}

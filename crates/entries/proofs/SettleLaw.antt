@@ -12,12 +12,12 @@ use borrow.Author.Tests.{eqb-true, eq-eqb}
 use Rattle.format.specs.Test.{if_then_else_}
 use Rattle.format.specs.Word.{put}
 use Rattle.format.specs.Distinct.{tally}
-use Rattle.format.specs.Order.{before, amount, AllIn, Sorted}
+use Rattle.format.specs.Order.{before}
+use Rattle.format.proofs.OrderLaw.{AllIn, Sorted, before-cases, before-more, before-tie}
+use Rattle.format.proofs.Tally.{amount, lt-or-le, tally-none, amount-some, amount-one}
 use Rattle.format.specs.MakeTables.{keyCount, liveAt, alikeAt, keyWords, limitOf, keysOf, timesOf, tableKeys, wordsOf, tableWords, tableCounts}
 use Rattle.format.proofs.Each.{true-false}
-use Rattle.format.proofs.Tally.{lt-or-le, tally-none, amount-some, amount-one}
 use Rattle.format.proofs.NewsLaw.{news-rising}
-use Rattle.format.proofs.OrderLaw.{before-cases, before-more, before-tie}
 use Rattle.format.proofs.TableRuns.{run-length, run-front, run-behind}
 use Rattle.format.proofs.TableKeys.{keys-many, in-turn, only-order, count-at, counts-many}
 use Rattle.keys.specs.Keys.{placeIn}

@@ -10,11 +10,11 @@ use lib.Seq.{sets, sets-eq, take-suc, take-all, length-take-le}
 use lib.Dec.{leb}
 use Rattle.format.specs.Test.{if_then_else_}
 use Rattle.format.specs.Word.{put}
-use Rattle.format.specs.Order.{range, before, insert, falling, ordered, AllIn}
+use Rattle.format.specs.Order.{range, before, insert, falling, ordered}
 use Rattle.format.specs.Width.{partSize}
+use Rattle.format.proofs.OrderLaw.{AllIn, all-mono, map-at, falling-bound, ordered-length, ordered-lt}
 use Rattle.format.specs.MakeTables.{keyCount, keyWords, limitOf, keysOf, timesOf, tableKeys, wordsOf, tableWords, tableCounts}
 use Rattle.format.proofs.Put.{put-length}
-use Rattle.format.proofs.OrderLaw.{all-mono, map-at, falling-bound, ordered-length, ordered-lt}
 use Rattle.format.proofs.TableKeys.{keys-many}
 use Rattle.pack.proofs.Store.{put-put, put-none}
 use Rattle.keys.specs.Keys.{liveIn, placeIn}

@@ -13,7 +13,7 @@ use Rattle.format.specs.Word.{byteAt}
 use Rattle.format.specs.Span.{Span}
 use Rattle.format.specs.Reader.{Shape, Reader, Reply, got}
 use Rattle.format.specs.Plain.{Listing, endOf, sub}
-use Rattle.format.specs.Laws.{around, Nested}
+use Rattle.format.specs.Nest.{around, Nested}
 use Rattle.format.specs.Check.{nextOf, kidsOf, treeOf, placeOf, reading, listing, stored, Admitted}
 use Rattle.format.specs.Tree.{Raw, punct, ident, literal, subtree, treeAt}
 use Rattle.format.specs.Tables.{rules, Tables, Limits, partIn, symbolIn, indexedBelow, rowEight, Mode, limits, spanWords, treeWords, modeTables}

@@ -14,8 +14,7 @@ use Rattle.format.specs.Write.{suffixes, treeBytes, spanBytes, heavyByte
 use Rattle.format.specs.WordList.{rawFrom, listCount, listRules}
 use Rattle.format.specs.Writer.{find, raws, listVerdict}
 use Rattle.format.specs.Root.{rangeFits}
-use Rattle.format.specs.Holding.{holdingAll}
-use Rattle.format.specs.Builder.{Builder, Point, subtreeWords, leafFits, openFit, disagrees, Stepped, noBuilder, new, room, pushVerdict, openVerdict, closeVerdict, openBefore, isAmong, pointVerdict, restorePoint, pointFits, Step, push, openSubtree, closeSubtree, restore, builderStep, builderRun, builderFrom, buildList, innerList, skipList, build}
+use Rattle.format.specs.Builder.{Builder, Point, subtreeWords, leafFits, openFit, disagrees, Stepped, noBuilder, new, room, pushVerdict, openVerdict, closeVerdict, openBefore, isAmong, pointVerdict, restorePoint, pointFits, Step, push, openSubtree, closeSubtree, restore, builderStep, builderRun, builderFrom, buildList, innerList, skipList, build, holdingAll}
 use Rattle.format.specs.Part.{WordSpan, noSpan}
 
 -- ---- what the limits answer

@@ -16,9 +16,9 @@ use Rattle.format.specs.Buffer.{wordShape}
 use Rattle.format.specs.Tables.{Mode, limits, indexedBelow}
 use Rattle.format.specs.WordList.{wordOf, treeList, rawFrom, wordFields, listCount, given, rowTwo, listRules}
 use Rattle.format.specs.Writer.{partIndex, symbolIndex, rawOf, raws, present, rowFive}
-use Rattle.format.specs.Holding.{holdingAll}
 use Rattle.format.specs.Width.{openAt, closeAt, treeSize}
 use Rattle.format.specs.Part.{partFrom}
+use Rattle.format.specs.Builder.{holdingAll}
 use Rattle.format.proofs.Each.{and-right, both, refused-not}
 
 module _ (l : List ℕ) where

@@ -11,7 +11,8 @@ use Rattle.format.specs.Reader.{Shape, Reader, Reply, got, bad, Answer, 
 use Rattle.format.specs.Walk.{Walk, WalkCall, advance, skip, walkFits, walkRead, walkStep, freshWalk}
 use Rattle.format.specs.LastSpan.{lastAfter, lastFor, lastTree}
 use Rattle.format.specs.Plain.{Listing, endOf, sub, plainWalkGo}
-use Rattle.format.specs.Laws.{Nested, Reads}
+use Rattle.format.specs.Nest.{Nested}
+use Rattle.format.proofs.ListRead.{Reads}
 use Rattle.format.proofs.Each.{true-false}
 use Rattle.format.proofs.WalkRun.{place-le, lands}
 

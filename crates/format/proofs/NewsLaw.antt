@@ -9,10 +9,9 @@ use lib.ListN.{length, getD, length-append, List·getD-append}
 use lib.Seq.{getD-at}
 use Rattle.format.specs.Test.{if_then_else_}
 use Rattle.format.specs.Distinct.{anyIn, tally, news, hits, times}
-use Rattle.format.specs.Order.{amount}
+use Rattle.format.proofs.Tally.{amount, lt-or-le, any-none, any-at, any-some, tally-none, tally-step, amount-none, amount-one}
 use Rattle.format.specs.MakeTables.{total}
 use Rattle.format.proofs.Each.{true-false}
-use Rattle.format.proofs.Tally.{lt-or-le, any-none, any-at, any-some, tally-none, tally-step, amount-none, amount-one}
 
 -- to be alike is an equivalence
 pub record Likeness (alike : ℕ → ℕ → Bool) : Type 0 where

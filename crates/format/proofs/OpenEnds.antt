@@ -1,12 +1,16 @@
 -- A stack of ends in an array: how many, and what a store past them, one more and one less make of them.
 use Prim.Native.Nat.{ℕ, zero, suc, _+_, _-_, _≤_, _<_}
 use mathlib.Core.Path.{_≡_, refl, ap}
-use mathlib.Core.List.{List, _∷_}
+use mathlib.Core.List.{List, [], _∷_}
 use native.Mathlib.Omega.{arith}
 use native.Mathlib.Numerals.{add-one}
 use lib.ListN.{length, getD, set}
 use lib.Seq.{getD-set-same, getD-set-other}
-use Rattle.format.specs.Nest.{openEnds}
+
+-- a stack of ends in an array ("`Vec` stacks: arrays of 256"): its first so many, the innermost first
+unfoldable pub openEnds : List ℕ → ℕ → List ℕ
+openEnds ends zero = []
+openEnds ends (suc d) = getD ends d 0 ∷ openEnds ends d
 
 module _ (ends : List ℕ) where
   pub open-length : (d : ℕ) → length (openEnds ends d) ≡ d

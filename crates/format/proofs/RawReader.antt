@@ -9,14 +9,13 @@ use borrow.Author.Tests.{eq-eqb}
 use Rattle.format.specs.Test.{if_then_else_}
 use Rattle.format.specs.Reader.{Reply, got, bad}
 use Rattle.format.specs.Check.{check}
-use Rattle.format.specs.Sight.{sight, Alike}
+use Rattle.format.proofs.Sight.{sight, Alike, check-same}
 use Rattle.format.specs.Tree.{Raw, punct, ident, literal, subtree, isSubtree, countOf, treeAt}
 use Rattle.format.specs.Fields.{fields}
 use Rattle.format.specs.Tables.{TableRules, Tables, rules, Mode, treeWords, modeTables, countRules, ownMode, ownTables}
 use Rattle.format.specs.Buffer.{formed, unless, judge, wordShape, rawShape, reader, rawReader, ownReader, bufferCheck, sizeReader}
 use Rattle.format.specs.Width.{partSize}
 use Rattle.format.proofs.Each.{true-false}
-use Rattle.format.proofs.Sight.{check-same}
 
 -- tables whose list words tell a subtree and its count
 pub record Telling (T : Tables) : Type 0 where

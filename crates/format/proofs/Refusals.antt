@@ -11,19 +11,18 @@ use Rattle.format.specs.Word.{wordAt, halfAt, put}
 use Rattle.format.specs.Span.{span, spanAt, symbolAt}
 use Rattle.format.specs.Reader.{got}
 use Rattle.format.specs.Plain.{Listing, endOf}
-use Rattle.format.specs.Nest.{nestFrom, nest, run, stillOpen}
+use Rattle.format.specs.Nest.{nestFrom, nest, stillOpen}
+use Rattle.format.proofs.NestRun.{run, run-done, run-four, run-sub, nest-as-run}
 use Rattle.format.specs.Tree.{subtree, treeAt, afterSpan, controlled}
 use Rattle.format.specs.Check.{check, placeOf}
-use Rattle.format.specs.Write.{treeBytes, rootBytes, heavyBytes, suffixes}
+use Rattle.format.specs.Write.{treeBytes, rootBytes, heavyBytes, suffixes, spanBytes, symbolBytes}
 use Rattle.format.specs.Tables.{treeWords}
 use Rattle.format.specs.Buffer.{judge, wordShape, ownReader, bufferCheck}
 use Rattle.format.specs.WordList.{rawFrom, listRules}
 use Rattle.format.specs.Writer.{find, raws, listVerdict, writerVerdict, writerReport, workAfter, outAfter}
 use Rattle.format.specs.Pack.{packSpan, packSymbol, spanPacked, spanReport, symbolReport}
-use Rattle.format.specs.Write.{spanBytes, symbolBytes}
 use Rattle.format.proofs.Tally.{lt-or-le}
 use Rattle.format.proofs.Unread.{Cut, zeros-bytes}
-use Rattle.format.proofs.NestRun.{run-done, run-four, run-sub, nest-as-run}
 use Rattle.format.proofs.Worked.{spanOf, loneRoot, twoParts, rootWords, plus, parens}
 use Rattle.format.proofs.Samples.{threeParts}
 

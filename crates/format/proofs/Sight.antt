@@ -1,9 +1,8 @@
--- What is seen of a tree says all that the check asks of it; and the check says the same of two readers that show the same.
+-- All that the check sees of a tree that is read: its sort, where it ends, and a subtree's two counts. Two readers that show the same are checked alike.
 use Prim.Native.Nat.{ℕ, zero, suc, _+_}
 use mathlib.Core.Bool.{Bool, true, false}
 use mathlib.Core.Path.{_≡_, refl, sym, ap, _∙_}
 use mathlib.Core.List.{List, [], _∷_}
-use native.Mathlib.Omega.{arith}
 use lib.Dec.{leb, eqb, ltb}
 use lib.ListN.{length}
 use Rattle.format.specs.Test.{if_then_else_}
@@ -13,39 +12,57 @@ use Rattle.format.specs.Plain.{endOf, sub}
 use Rattle.format.specs.Nest.{stillOpen, innermost, nestFrom, nest}
 use Rattle.format.specs.Check.{nextOf, kidsOf, treeOf, placeOf, reading, listing, stored, verdictOf, readRule, honestRule, check}
 use Rattle.format.proofs.Each.{true-false}
-use Rattle.format.proofs.CheckLaw.{next-place}
-use Rattle.format.specs.Descent.{LeafAt, SubtreeAt}
-use Rattle.format.specs.Sight.{Sight, leaf, subtree, unread, sight, Alike}
+
+pub data Sight : Type 0 where
+  -- next place
+  leaf : ℕ → Sight
+  -- descendant count, children bytes, next place
+  subtree : ℕ → ℕ → ℕ → Sight
+  -- refusal's number
+  unread : ℕ → Sight
+
+unfoldable pub sight : {Tree : Type 0} → Shape Tree → Reply Tree → Sight
+sight S (got t next kids) = if S .isSub t then subtree (S .count t) kids next else leaf next
+sight S (bad r) = unread r
+
+-- two readers, of whatever trees, that show the same
+pub record Alike {Tree Tree′ : Type 0} (S : Shape Tree) (R : Reader Tree) (S′ : Shape Tree′) (R′ : Reader Tree′) : Type 0 where
+  pub sized : R .sized ≡ R′ .sized
+  pub trees : R .trees ≡ R′ .trees
+  pub bytes : R .bytes ≡ R′ .bytes
+  pub flat : S .isSub (S .blank) ≡ false
+  pub flat′ : S′ .isSub (S′ .blank) ≡ false
+  pub read : (n p : ℕ) → sight S (R .read n p) ≡ sight S′ (R′ .read n p)
 
 -- ---- what a sight shows
 
-abbrev nextSeen : Sight → ℕ
+abbrev pub nextSeen : Sight → ℕ
 nextSeen (leaf next) = next
 nextSeen (subtree count kids next) = next
 nextSeen (unread r) = 0
 
-abbrev kidsSeen : Sight → ℕ
+abbrev pub kidsSeen : Sight → ℕ
 kidsSeen (leaf next) = 0
 kidsSeen (subtree count kids next) = kids
 kidsSeen (unread r) = 0
 
-abbrev countSeen : Sight → ℕ
+abbrev pub countSeen : Sight → ℕ
 countSeen (leaf next) = 0
 countSeen (subtree count kids next) = count
 countSeen (unread r) = 0
 
-abbrev subSeen : Sight → Bool
+abbrev pub subSeen : Sight → Bool
 subSeen (leaf next) = false
 subSeen (subtree count kids next) = true
 subSeen (unread r) = false
 
-abbrev verdictSeen : ℕ → Sight → Verdict
+abbrev pub verdictSeen : ℕ → Sight → Verdict
 verdictSeen n (leaf next) = passed
 verdictSeen n (subtree count kids next) = passed
 verdictSeen n (unread r) = refused r n
 
 module _ {Tree : Type 0} (S : Shape Tree) (R : Reader Tree) (flat : S .isSub (S .blank) ≡ false) where
-  see-next : (q : Reply Tree) → nextOf q ≡ nextSeen (sight S q)
+  pub see-next : (q : Reply Tree) → nextOf q ≡ nextSeen (sight S q)
   unfolding sight
   see-next (bad r) = refl
   see-next (got t next kids) = go (S .isSub t) refl
@@ -54,7 +71,7 @@ module _ {Tree : Type 0} (S : Shape Tree) (R : Reader Tree) (flat : S .isSub (S 
       go true e = rw e
       go false e = rw e
 
-  see-sub : (q : Reply Tree) → S .isSub (treeOf S R q) ≡ subSeen (sight S q)
+  pub see-sub : (q : Reply Tree) → S .isSub (treeOf S R q) ≡ subSeen (sight S q)
   unfolding sight
   see-sub (bad r) = flat
   see-sub (got t next kids) = go (S .isSub t) refl
@@ -63,7 +80,7 @@ module _ {Tree : Type 0} (S : Shape Tree) (R : Reader Tree) (flat : S .isSub (S 
       go true e = rw e
       go false e = rw e
 
-  see-verdict : (n : ℕ) (q : Reply Tree) → verdictOf S R n q ≡ verdictSeen n (sight S q)
+  pub see-verdict : (n : ℕ) (q : Reply Tree) → verdictOf S R n q ≡ verdictSeen n (sight S q)
   unfolding sight
   see-verdict n (bad r) = refl
   see-verdict n (got t next kids) = go (S .isSub t) refl
@@ -72,40 +89,15 @@ module _ {Tree : Type 0} (S : Shape Tree) (R : Reader Tree) (flat : S .isSub (S 
       go true e = rw e
       go false e = rw e
 
-  see-count : (q : Reply Tree) → S .isSub (treeOf S R q) ≡ true → S .count (treeOf S R q) ≡ countSeen (sight S q)
+  pub see-count : (q : Reply Tree) → S .isSub (treeOf S R q) ≡ true → S .count (treeOf S R q) ≡ countSeen (sight S q)
   unfolding sight
   see-count (bad r) e = true-false (S .isSub (S .blank)) e flat
   see-count (got t next kids) e = rw e
 
-  see-kids : (q : Reply Tree) → S .isSub (treeOf S R q) ≡ true → kidsOf q ≡ kidsSeen (sight S q)
+  pub see-kids : (q : Reply Tree) → S .isSub (treeOf S R q) ≡ true → kidsOf q ≡ kidsSeen (sight S q)
   unfolding sight
   see-kids (bad r) e = refl
   see-kids (got t next kids) e = rw e
-
--- ---- tree n, by what is seen of it
-
-module _ {Tree : Type 0} (S : Shape Tree) (R : Reader Tree) (flat : S .isSub (S .blank) ≡ false) (n : ℕ) where
-  pub seen-unread : (r : ℕ) → sight S (reading S R n) ≡ unread r → readRule S R n ≡ refused r n
-  seen-unread r e = see-verdict S R flat n (reading S R n) ∙ ap (verdictSeen n) e
-
-  pub seen-leaf : (next : ℕ) → sight S (reading S R n) ≡ leaf next → LeafAt S R n next
-  seen-leaf next e =
-      record {
-        readable = see-verdict S R flat n (reading S R n) ∙ ap (verdictSeen n) e;
-        flat = see-sub S R flat (reading S R n) ∙ ap subSeen e;
-        place = sym (next-place S R n ∙ see-next S R flat (reading S R n) ∙ ap nextSeen e);
-      }
-
-  pub seen-subtree : (count kids next : ℕ) → sight S (reading S R n) ≡ subtree count kids next → SubtreeAt S R n count kids next
-  seen-subtree count kids next e =
-      let s : sub S (listing S R) n ≡ true = see-sub S R flat (reading S R n) ∙ ap subSeen e in
-      record {
-        readable = see-verdict S R flat n (reading S R n) ∙ ap (verdictSeen n) e;
-        holds = s;
-        ends = ap (λ c. n + 1 + c) (see-count S R flat (reading S R n) s ∙ ap countSeen e);
-        bytes = see-kids S R flat (reading S R n) s ∙ ap kidsSeen e;
-        place = sym (next-place S R n ∙ see-next S R flat (reading S R n) ∙ ap nextSeen e);
-      }
 
 -- ---- two readers
 

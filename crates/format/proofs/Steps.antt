@@ -7,8 +7,7 @@ use Rattle.format.specs.Verdict.{Verdict, passed, eachFrom}
 use Rattle.format.specs.Reader.{Answer, done, none, one, two, refused}
 use Rattle.format.specs.Word.{wordAt, halfAt}
 use Rattle.format.specs.Span.{spanAt, symbolAt}
-use Rattle.format.specs.Laws.{around}
-use Rattle.format.specs.Nest.{nestFrom, stillOpen}
+use Rattle.format.specs.Nest.{around, nestFrom, stillOpen}
 use Rattle.format.specs.Tree.{treeAt, afterSpan, controlled}
 use Rattle.format.specs.Check.{check, placeOf}
 use Rattle.format.specs.Walk.{Walk, advance, skip, walkStep, walkRun, freshWalk}

@@ -9,7 +9,6 @@ use native.Mathlib.Decide.{decLt}
 use lib.ListN.{length, getD}
 use Rattle.format.specs.Test.{if_then_else_}
 use Rattle.format.specs.Distinct.{anyIn, tally}
-use Rattle.format.specs.Order.{amount}
 use Rattle.format.proofs.Each.{true-false}
 
 pub lt-or-le : (a b : ℕ) → (a < b) ⊎ (b ≤ a)
@@ -46,6 +45,10 @@ any-some f (x ∷ xs) h = go (f x) refl h (any-some f xs)
     go false e h rest = let q = rest h in (suc (q .0), omega (arith, q .1), q .2)
 
 -- ---- how many elements pass
+
+unfoldable pub amount : (ℕ → Bool) → List ℕ → ℕ
+amount f [] = 0
+amount f (x ∷ xs) = if f x then amount f xs + 1 else amount f xs
 
 pub amount-none : (f : ℕ → Bool) (l : List ℕ) → ((s : ℕ) → s < length l → f (getD l s 0) ≡ false) → amount f l ≡ 0
 unfolding amount

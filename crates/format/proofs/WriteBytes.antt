@@ -12,8 +12,8 @@ use Rattle.format.specs.Test.{if_then_else_}
 use Rattle.format.specs.Verdict.{passed}
 use Rattle.format.specs.Word.{AreBytes, byteAt, halfBytes, wordBytes}
 use Rattle.format.specs.Span.{Span}
-use Rattle.format.specs.Tree.{Raw, punct, ident, literal, subtree, isSubtree, countOf}
-use Rattle.format.specs.Fields.{spanFits, isScalar, isRawKind, fields}
+use Rattle.format.specs.Tree.{Raw, punct, ident, literal, subtree, isSubtree, countOf, isRawKind}
+use Rattle.format.specs.Fields.{spanFits, isScalar, fields}
 use Rattle.format.specs.Tables.{Tables, ownTables}
 use Rattle.format.specs.Buffer.{wordShape}
 use Rattle.format.specs.Plain.{endOf, sub}

@@ -10,8 +10,7 @@ use lib.Dec.{leb}
 use lib.ListN.{length}
 use Rattle.format.specs.Verdict.{Verdict, passed, refused, _andThen_, rule, each}
 use Rattle.format.specs.Plain.{Listing, endOf}
-use Rattle.format.specs.Laws.{Nested}
-use Rattle.format.specs.Nest.{rooted, nest}
+use Rattle.format.specs.Nest.{rooted, nest, Nested}
 use Rattle.format.specs.Tables.{ownTables, ownMode}
 use Rattle.format.specs.Buffer.{wordShape}
 use Rattle.format.specs.WordList.{wordOf, wordFields, listCount, given, listSized, rowTwo, listRules, listRows}

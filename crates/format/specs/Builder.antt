@@ -1,8 +1,8 @@
 -- The builder: a list of trees made step by step in a lent run of words. Verdict, builder and run after a step are given for every builder and every run.
-use Prim.Native.Nat.{ℕ, zero, suc, _+_, _*_, _-_}
+use Prim.Native.Nat.{ℕ, _+_, _*_, _-_}
 use mathlib.Core.Bool.{Bool, true, false, not, _&&_, _||_}
 use mathlib.Core.List.{List, [], _∷_, _++_}
-use lib.ListN.{length, take, drop, getD}
+use lib.ListN.{length, take, drop, getD, set}
 use lib.Dec.{ltb, leb, eqb}
 use Rattle.format.specs.Test.{if_then_else_}
 use Rattle.format.specs.Verdict.{Verdict, passed, refused, _andThen_, contents, Report, refusal, rule, eachFrom}
@@ -13,7 +13,6 @@ use Rattle.format.specs.Width.{treeSize, closeAt}
 use Rattle.format.specs.Part.{WordSpan, spanList}
 use Rattle.format.specs.Root.{rangeFits}
 use Rattle.format.specs.WordList.{wordOf, treeList, wordFields, listCount, given}
-use Rattle.format.specs.Holding.{holdingAll}
 use Rattle.format.specs.Writer.{writerVerdict, writerReport, workAfter, outAfter}
 
 pub record Builder : Type 0 where
@@ -207,15 +206,6 @@ builderRun (s ∷ ss) b l =
     let r = builderRun ss (a .builder) (a .words) in
     record { verdict = a .verdict andThen r .verdict; builder = r .builder; words = r .words }
 
--- pushes, opens and closes, none of which closes a subtree that was open before them; d have been opened since
-unfoldable pub staysInside : ℕ → List Step → Bool
-staysInside d [] = true
-staysInside d (push w ∷ ss) = staysInside d ss
-staysInside d (openSubtree kind s ∷ ss) = staysInside (suc d) ss
-staysInside zero (closeSubtree s ∷ ss) = false
-staysInside (suc d) (closeSubtree s ∷ ss) = staysInside d ss
-staysInside d (restore p ∷ ss) = false
-
 -- `new`, then the steps
 unfoldable pub builderFrom : ℕ → WordSpan → WordSpan → List ℕ → List Step → Stepped
 builderFrom kind o c l ss =
@@ -225,8 +215,11 @@ builderFrom kind o c l ss =
 
 -- ---- `build`, `build_skip_top_subtree`: "the writer's (root as 0)"
 
+-- "the root taken to hold all others", whatever count it, a subtree, has stored
+unfoldable pub holdingAll : List ℕ → List ℕ
+holdingAll l = if eqb (getD l 0 0) 3 then set l 1 (listCount l - 1) else l
+
 module _ (l : List ℕ) (b : Builder) where
-  -- "the root taken to hold all others"
   unfoldable pub buildList : List ℕ
   buildList = holdingAll (take (treeSize * b .count) l)
 

@@ -6,11 +6,11 @@ use lib.Dec.{ltb, eqb}
 use Rattle.format.specs.Test.{if_then_else_}
 use Rattle.format.specs.Verdict.{Verdict, passed, refused}
 use Rattle.format.specs.Reader.{Shape, Reader}
-use Rattle.format.specs.Laws.{around}
+use Rattle.format.specs.Nest.{around}
 use Rattle.format.specs.Check.{listing, placeOf}
 use Rattle.format.specs.Tables.{partCount}
 use Rattle.format.specs.Buffer.{wordShape, ownReader}
-use Rattle.format.specs.Bundle.{Bundle, BundleRead, bundle, badBundle, bundleAt, checkOf}
+use Rattle.format.specs.Bundle.{BundleRead, bundle, badBundle, bundleAt, checkOf}
 
 -- a number in decimal digits; f bounds their number
 unfoldable pub digitsFor : ℕ → ℕ → List ℕ

@@ -11,15 +11,15 @@ use lib.ListN.{length, getD, set}
 use Rattle.format.specs.Test.{if_then_else_}
 use Rattle.format.specs.Verdict as format
 use Rattle.format.specs.Verdict.{passed, refused, _andThen_, eachFrom}
-use Rattle.format.specs.Nest.{stillOpen, openEnds, innermost, nest}
+use Rattle.format.specs.Nest.{stillOpen, innermost, nest}
+use Rattle.format.proofs.OpenEnds.{openEnds, open-length, open-more, open-suc}
 use Rattle.format.specs.Buffer.{wordShape}
-use Rattle.format.specs.Holding.{holdingAll}
 use Rattle.format.specs.Width.{treeSize}
+use Rattle.format.specs.Builder.{holdingAll}
 use Rattle.format.specs.WordList.{wordOf, wordFields, listCount, given, listSized, listRules, listRows}
 use Rattle.format.proofs.Each.{and₃, and-left, and-right}
 use Rattle.format.proofs.Holding.{holding-leaf, holding-same, holding-two, holding-nest}
 use Rattle.format.proofs.NestLaw.{still-above, still-below}
-use Rattle.format.proofs.OpenEnds.{open-length, open-more, open-suc}
 use Rattle.tree.specs.Refusal.{verdictAnswer}
 use Rattle.tree.specs.declared.refusal.Refusal.{Refusal}
 use Rattle.tree.specs.declared.refusal.Verdict.{Verdict}

@@ -9,18 +9,17 @@ use lib.ListN.{length, drop}
 use Rattle.format.specs.Verdict.{Verdict, passed, refused}
 use Rattle.format.specs.Reader.{Shape, Reader, Reply, got, bad}
 use Rattle.format.specs.Plain.{sub}
-use Rattle.format.specs.Laws.{around}
+use Rattle.format.specs.Nest.{around}
 use Rattle.format.specs.Tree.{Raw, punct, ident, literal, subtree, treeAt}
 use Rattle.format.specs.Fields.{fields}
 use Rattle.format.specs.Check.{placeOf, listing, treeOf}
 use Rattle.format.specs.Width.{partSize}
 use Rattle.format.specs.Tables.{rules, rowEight, limits, treeWords, ownMode, ownTables, countRules, tablesSized}
 use Rattle.format.specs.Buffer.{formed, judge, wordShape, rawShape, ownReader, sizeReader, bufferCheck}
-use Rattle.format.specs.Sight.{Alike}
 use Rattle.format.specs.Bundle.{Bundle, bundle, bundleAt, checkOf}
 use Rattle.format.specs.Lister.{header, sortWord, treeLine, treeLines, bufferLines, bundleText, listerText}
 use Rattle.format.proofs.Each.{and-left, and-right}
-use Rattle.format.proofs.Sight.{place-same, sub-same, end-same}
+use Rattle.format.proofs.Sight.{place-same, sub-same, end-same, Alike}
 use Rattle.format.proofs.RawReader.{raw-alike, mode-telling}
 use Rattle.format.proofs.Own.{own-sound}
 use Rattle.format.proofs.BundleLaw.{sizesOf, bundle-by-sizes}

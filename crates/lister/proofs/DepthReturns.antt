@@ -4,9 +4,9 @@ use mathlib.Core.Path.{_≡_, refl, sym, _∙_, subst}
 use mathlib.Core.List.{List}
 use native.Mathlib.Omega.{arith}
 use lib.ListN.{set, getD, length-set}
-use Rattle.format.specs.Nest.{stillOpen, openEnds}
+use Rattle.format.specs.Nest.{stillOpen}
+use Rattle.format.proofs.OpenEnds.{openEnds, open-more}
 use Rattle.format.proofs.NestLaw.{still-above, still-below}
-use Rattle.format.proofs.OpenEnds.{open-more}
 use Rattle.tree.specs.Raw.{rawOf}
 use Rattle.tree.specs.declared.raw.RawPunct.{RawPunct}
 use Rattle.tree.specs.declared.raw.RawIdent.{RawIdent}

@@ -8,14 +8,14 @@ use lib.ListN.{length, take, drop}
 use lib.Seq.{length-take-le}
 use Rattle.format.specs.Verdict as format
 use Rattle.format.specs.Tree.{Raw}
-use Rattle.format.specs.Nest.{stillOpen, openEnds}
+use Rattle.format.specs.Nest.{stillOpen}
+use Rattle.format.proofs.OpenEnds.{openEnds, open-length}
 use Rattle.format.specs.Check.{check}
 use Rattle.format.specs.Buffer.{rawShape, sizeReader}
 use Rattle.format.specs.Bundle.{bundleAt, checkOf}
 use Rattle.format.specs.Lister.{refusalLine, header, line, bundleText, listerText}
 use Rattle.io.specs.Counts.{Counts}
 use Rattle.text.specs.Typed.{Typed}
-use Rattle.format.proofs.OpenEnds.{open-length}
 use Rattle.text.proofs.Typed.{next-inside, typed-then, typed-as, typed-whole}
 use Rattle.tree.specs.Refusal.{verdictAnswer}
 use Rattle.tree.proofs.Answers.{answer-passed, answer-refused}

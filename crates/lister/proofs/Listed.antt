@@ -13,8 +13,8 @@ use Rattle.format.specs.Verdict.{passed}
 use Rattle.format.specs.Reader.{Shape, Reader, got, bad}
 use Rattle.format.specs.Tree.{Raw, isSubtree, countOf, treeAt}
 use Rattle.format.specs.Plain.{Listing, endOf, sub}
-use Rattle.format.specs.Laws.{around, Nested}
-use Rattle.format.specs.Nest.{stillOpen, openEnds}
+use Rattle.format.specs.Nest.{around, Nested, stillOpen}
+use Rattle.format.proofs.OpenEnds.{openEnds}
 use Rattle.format.specs.Check.{check, placeOf, reading, listing, treeOf, nextOf, Admitted}
 use Rattle.format.specs.Tables.{countRules}
 use Rattle.format.specs.Buffer.{rawShape, judge, sizeReader}

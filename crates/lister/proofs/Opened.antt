@@ -10,8 +10,7 @@ use lib.Dec.{ltb, leb}
 use lib.ListN.{length}
 use Rattle.format.specs.Reader.{Shape}
 use Rattle.format.specs.Plain.{Listing, endOf, sub}
-use Rattle.format.specs.Laws.{around, Nested}
-use Rattle.format.specs.Nest.{stillOpen}
+use Rattle.format.specs.Nest.{around, Nested, stillOpen}
 use Rattle.format.proofs.CursorRun.{around-here}
 use Rattle.format.proofs.NestLaw.{still-still, still-above, still-below, around-not}
 

@@ -5,7 +5,8 @@ use mathlib.Core.Path.{_≡_}
 use mathlib.Core.List.{List, _∷_}
 use lib.ListN.{length}
 use Rattle.format.specs.Test.{if_then_else_}
-use Rattle.format.specs.Nest.{stillOpen, openEnds}
+use Rattle.format.specs.Nest.{stillOpen}
+use Rattle.format.proofs.OpenEnds.{openEnds}
 use Rattle.format.specs.Tree.{Raw, isSubtree, countOf}
 
 -- those that tree n is past are closed

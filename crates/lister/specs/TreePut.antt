@@ -4,7 +4,8 @@ use mathlib.Core.Path.{_≡_}
 use mathlib.Core.List.{List}
 use lib.ListN.{length}
 use Rattle.format.specs.Tree.{Raw}
-use Rattle.format.specs.Nest.{stillOpen, openEnds}
+use Rattle.format.specs.Nest.{stillOpen}
+use Rattle.format.proofs.OpenEnds.{openEnds}
 use Rattle.format.specs.Lister.{line}
 use Rattle.text.specs.Typed.{Typed}
 use Rattle.lister.specs.declared.list.Done.{Done}

@@ -17,7 +17,7 @@ use Rattle.format.specs.Fields.{fields}
 use Rattle.format.specs.Write.{treeBytes}
 use Rattle.format.specs.WordList.{wordOf, rawFrom, listCount}
 use Rattle.format.specs.Writer.{rawOf}
-use Rattle.format.specs.Holding.{holdingAll}
+use Rattle.format.specs.Builder.{holdingAll}
 use Rattle.format.proofs.Holding.{holding-other}
 use Rattle.format.proofs.Each.{true-false}
 use Rattle.pack.specs.Answer.{spanOf}

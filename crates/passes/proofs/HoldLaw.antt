@@ -14,7 +14,7 @@ use Rattle.format.specs.Write.{suffixes}
 use Rattle.format.specs.Tables.{ownTables}
 use Rattle.format.specs.WordList.{wordOf, rawFrom, listCount, listSized, listRules}
 use Rattle.format.specs.Writer.{rawOf, raws, rowFive, listVerdict}
-use Rattle.format.specs.Holding.{holdingAll}
+use Rattle.format.specs.Builder.{holdingAll}
 use Rattle.format.proofs.Each.{both}
 use Rattle.format.proofs.Holding.{holding-count, holding-other, holding-raw, holding-raws, passed-root}
 use Rattle.encode.specs.Encode.{indices}

@@ -7,7 +7,7 @@ use lib.ListN.{length}
 use Rattle.format.specs.Verdict.{passed}
 use Rattle.format.specs.Tables.{ownTables}
 use Rattle.format.specs.WordList.{listCount, listSized}
-use Rattle.format.specs.Holding.{holdingAll}
+use Rattle.format.specs.Builder.{holdingAll}
 use Rattle.format.specs.Writer.{listVerdict}
 
 -- row 1 is silent on the list and on the tables

@@ -12,7 +12,7 @@ use tree::raw::place;
 ghost use mathlib.Core.Path.{_≡_};
 ghost use Prim.Native.Nat.{_-_, _<_, _≤_};
 ghost use lib.ListN.{length, getD};
-ghost use Rattle.format.specs.Holding.{holdingAll};
+ghost use Rattle.format.specs.Builder.{holdingAll};
 ghost use Rattle.format.specs.Word.{put};
 ghost use Rattle.format.specs.Write.{treeBytes};
 ghost use Rattle.format.specs.WordList.{wordOf, rawFrom, listCount};

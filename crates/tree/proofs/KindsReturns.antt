@@ -6,7 +6,7 @@ use borrow.Author.Tests.{le-leb, lt-leb, not-true, not-false}
 use mathlib.Core.Bool.{Bool, true, false, not, _&&_}
 use lib.Dec.{leb, eqb}
 use Rattle.format.specs.Test.{if_then_else_}
-use Rattle.format.specs.Fields.{isRawKind}
+use Rattle.format.specs.Tree.{isRawKind}
 use Rattle.tree.specs.Types.{spacingOf, isRawOf, delimiterOf, litKindOf, spacingAnswer, isRawAnswer, delimiterAnswer, litKindAnswer, spacingWord, isRawWord, delimiterWord, litKindWord}
 use Rattle.tree.specs.declared.types.Spacing.{Spacing}
 use Rattle.tree.specs.declared.types.Spacing.the-variants.{Alone, Joint, JointHidden}

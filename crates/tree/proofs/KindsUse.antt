@@ -6,7 +6,7 @@ use borrow.Author.Tests.{le-leb}
 use mathlib.Core.Bool.{true}
 use lib.Dec.{leb, eqb}
 use Rattle.format.specs.Test.{if_then_else_}
-use Rattle.format.specs.Fields.{isRawKind}
+use Rattle.format.specs.Tree.{isRawKind}
 use Rattle.tree.specs.Types.{spacingOf, isRawOf, delimiterOf, litKindOf, spacingAnswer, isRawAnswer, delimiterAnswer, litKindAnswer}
 use Rattle.tree.specs.declared.types.Spacing.{Spacing}
 use Rattle.tree.specs.declared.types.IdentIsRaw.{IdentIsRaw}

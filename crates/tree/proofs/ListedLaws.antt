@@ -7,9 +7,10 @@ use native.Mathlib.Omega.{arith}
 use borrow.Author.Tests.{le-leb, lt-leb, leb-true, eq-eqb, ne-eqb, not-true, not-false}
 use lib.Dec.{leb, eqb}
 use Rattle.format.specs.Test.{if_then_else_}
-use Rattle.format.specs.Fields.{fields, isRawKind}
+use Rattle.format.specs.Fields.{fields}
 use Rattle.format.specs.Width.{spanSize, openAt, closeAt}
 use Rattle.format.specs.Part.{WordSpan, spanFrom, noSpan}
+use Rattle.format.specs.Tree.{isRawKind}
 use Rattle.format.specs.WordList.{wordOf, rawFrom, noClose, wordFields}
 use Rattle.format.proofs.PartLaw.{span-same}
 use Rattle.tree.specs.Raw.{punctRaw, identRaw, literalRaw, subtreeRaw}

@@ -7,8 +7,8 @@ use borrow.Author.Tests.{leb-true, eqb-true}
 use lib.Dec.{leb, eqb}
 use Rattle.format.specs.Test.{if_then_else_}
 use Rattle.format.specs.Span as format
-use Rattle.format.specs.Tree.{Raw, punct, ident, literal, subtree}
-use Rattle.format.specs.Fields.{spanFits, isScalar, isRawKind, fields}
+use Rattle.format.specs.Tree.{Raw, punct, ident, literal, subtree, isRawKind}
+use Rattle.format.specs.Fields.{spanFits, isScalar, fields}
 use Rattle.format.specs.Tables.{Mode, treeWords}
 use Rattle.format.proofs.Each.{and-left, and-right}
 use Rattle.tree.specs.Types.{spacingOf, isRawOf, delimiterOf, litKindOf, resolved, spacingWord, isRawWord, delimiterWord, litKindWord, treeWordsOf}

@@ -11,10 +11,11 @@ use lib.ListN.{length}
 use Rattle.format.specs.Test.{if_then_else_}
 use Rattle.format.specs.Width.{openAt, closeAt, treeSize}
 use Rattle.format.specs.Part.{spanList, spanFrom, noSpan}
-use Rattle.format.specs.Fields.{spanFits, isScalar, isRawKind, fields}
+use Rattle.format.specs.Fields.{spanFits, isScalar, fields}
 use Rattle.format.specs.WordList.{wordOf, treeList, rawFrom, noClose, wordFields}
 use Rattle.format.proofs.Each.{and-left, and-right, and₃}
 use Rattle.format.proofs.PartLaw.{same-span}
+use Rattle.format.specs.Tree.{isRawKind}
 use Rattle.tree.specs.Types.{spacingOf, isRawOf, delimiterOf, litKindOf, spacingWord, isRawWord, delimiterWord, litKindWord, treeWordsOf}
 use Rattle.tree.specs.Words.{treeFrom, wordsAnswer, rawCount, endFits, tokenFits}
 use Rattle.tree.specs.declared.types.Spacing.{Spacing}

@@ -8,7 +8,8 @@ use lib.Dec.{leb, eqb}
 use Rattle.format.specs.Test.{if_then_else_}
 use Rattle.format.specs.Width.{openAt, closeAt}
 use Rattle.format.specs.Part.{spanFrom, indexed}
-use Rattle.format.specs.Fields.{spanFits, isScalar, isRawKind, fields}
+use Rattle.format.specs.Fields.{spanFits, isScalar, fields}
+use Rattle.format.specs.Tree.{isRawKind}
 use Rattle.format.specs.WordList.{rawFrom, noClose, wordFields}
 use Rattle.format.proofs.Each.{and-right, and₃, and₄}
 

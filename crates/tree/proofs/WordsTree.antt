@@ -7,9 +7,9 @@ use mathlib.Core.List.{List, _∷_, _++_}
 use borrow.Author.Tests.{leb-true, eq-eqb, ne-eqb, not-true, not-false}
 use lib.Dec.{leb, eqb}
 use Rattle.format.specs.Test.{if_then_else_}
-use Rattle.format.specs.Fields.{isRawKind}
 use Rattle.format.specs.Width.{partSize, openAt, closeAt}
 use Rattle.format.specs.Part.{spanFrom}
+use Rattle.format.specs.Tree.{isRawKind}
 use Rattle.format.specs.WordList.{wordOf, rawFrom, wordFields}
 use Rattle.tree.specs.Raw.{rawTree}
 use Rattle.tree.specs.Types.{spacingAnswer, isRawAnswer, delimiterAnswer, litKindAnswer, spacingWord, isRawWord, delimiterWord, litKindWord, treeSpan, spanList, zeros, treeWordsOf}

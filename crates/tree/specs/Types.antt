@@ -5,11 +5,10 @@ use lib.ListN.{getD}
 use mathlib.Core.Bool.{_&&_}
 use lib.Dec.{leb, eqb}
 use Rattle.format.specs.Test.{if_then_else_}
-use Rattle.format.specs.Fields.{isRawKind}
+use Rattle.format.specs.Tree.{isRawKind, Raw, punct, ident, literal, subtree}
 use Rattle.format.specs.Span as format
 use Rattle.format.specs.Part as words
 use Rattle.format.specs.Part.{Part, WordSpan, noSpan}
-use Rattle.format.specs.Tree.{Raw, punct, ident, literal, subtree}
 use Rattle.format.specs.Tables.{Mode, entryAt}
 use Rattle.tree.specs.declared.types.Span.{Span}
 use Rattle.tree.specs.declared.types.Spacing.{Spacing}

@@ -9,7 +9,8 @@ use pack::span::range_fits;
 ghost use mathlib.Core.Path.{_≡_};
 ghost use lib.Dec.{leb, eqb};
 ghost use Rattle.format.specs.Test.{if_then_else_};
-ghost use Rattle.format.specs.Fields.{spanFits, isScalar, isRawKind, fields};
+ghost use Rattle.format.specs.Fields.{spanFits, isScalar, fields};
+ghost use Rattle.format.specs.Tree.{isRawKind};
 ghost use Rattle.pack.specs.Answer.{spanOf};
 ghost use Rattle.tree.specs.Raw.{rawOf, punctRaw, identRaw, literalRaw, subtreeRaw};
 

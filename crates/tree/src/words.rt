@@ -45,16 +45,15 @@ ghost use mathlib.Core.Bool.{true};
 ghost use Prim.Native.Nat.{_+_, _*_, _/_, _%_, _<_, _≤_};
 ghost use lib.Dec.{leb, eqb};
 ghost use Rattle.format.specs.Test.{if_then_else_};
-ghost use Rattle.format.specs.Fields.{isRawKind};
 ghost use Rattle.format.specs.Width.{spanSize, treeSize};
 ghost use Rattle.format.specs.Part.{spanFrom};
+ghost use Rattle.format.specs.Tree.{isRawKind};
 ghost use Rattle.format.specs.WordList.{wordOf, rawFrom, noClose, wordFields};
 ghost use Rattle.tree.specs.Listed.{openSpan, closeSpan};
 ghost use Rattle.tree.specs.Raw.{rawTree};
 ghost use Rattle.tree.specs.Types.{litKindWord, treeSpan, spanList, treeWordsOf};
 ghost use Rattle.tree.specs.declared.types.TokenTree.the-variants as trees;
-ghost use Rattle.tree.specs.Words.{treeFrom, wordsAnswer, rawWordsAnswer};
-ghost use Rattle.tree.specs.Words.{punctFrom, identFrom, literalFrom, subtreeFrom};
+ghost use Rattle.tree.specs.Words.{treeFrom, wordsAnswer, rawWordsAnswer, punctFrom, identFrom, literalFrom, subtreeFrom};
 ghost use Rattle.tree.specs.declared.words.WordsRead.the-variants as reads;
 
 pub enum WordsRead {

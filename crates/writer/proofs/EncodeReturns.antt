@@ -20,7 +20,7 @@ use Rattle.format.specs.WordList.{listCount, given, rowTwo, listSized, listRule
 use Rattle.format.specs.Plain.{sub, endOf}
 use Rattle.format.specs.Nest.{rooted, nestFrom, nest}
 use Rattle.format.specs.Buffer.{wordShape}
-use Rattle.format.specs.Holding.{holdingAll}
+use Rattle.format.specs.Builder.{holdingAll}
 use Rattle.format.specs.Writer.{present, rowFive, listVerdict, trees, packed}
 use Rattle.format.proofs.Each.{and₃, and-right, both, refused-not}
 use Rattle.format.proofs.Holding.{holding-length, holding-count, holding-same, holding-five, passed-root}

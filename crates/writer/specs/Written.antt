@@ -9,7 +9,7 @@ use Rattle.format.specs.Verdict.{passed, rule, report}
 use Rattle.format.specs.Verdict as verdict
 use Rattle.format.specs.Word.{put}
 use Rattle.format.specs.WordList.{listRules}
-use Rattle.format.specs.Holding.{holdingAll}
+use Rattle.format.specs.Builder.{holdingAll}
 use Rattle.format.specs.Writer.{present, packed, writerReport, workAfter, outAfter}
 use Rattle.passes.specs.Passed.{Within}
 use Rattle.tree.specs.Refusal.{reportAnswer}

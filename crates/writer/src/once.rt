@@ -9,7 +9,7 @@ use tree::raw::place;
 use tree::refusal::Report;
 ghost use Prim.Native.Nat.{_≤_};
 ghost use lib.ListN.{length};
-ghost use Rattle.format.specs.Holding.{holdingAll};
+ghost use Rattle.format.specs.Builder.{holdingAll};
 ghost use Rattle.format.specs.WordList.{listCount};
 ghost use Rattle.passes.specs.Passed.{Passed};
 ghost use Rattle.passes.specs.Run.{Ready, Run, Sized};

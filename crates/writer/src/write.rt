@@ -14,7 +14,7 @@ use tree::refusal::Report;
 use tree::refusal::Verdict;
 use tree::sizes::tables_sized;
 ghost use mathlib.Core.Path.{_≡_};
-ghost use Rattle.format.specs.Holding.{holdingAll};
+ghost use Rattle.format.specs.Builder.{holdingAll};
 ghost use Rattle.format.specs.Verdict.{passed};
 ghost use Rattle.format.specs.WordList.{listRules};
 ghost use Rattle.passes.specs.Passed.{Within, Passed};

@@ -3,10 +3,10 @@ use mathlib.Core.Path.{refl}
 use Prim.Native.Nat.{ℕ, _+_, _*_, _-_, _<_}
 use borrow.Fn.Kinds.{In}
 use borrow.Fn.PlainCycle.{Measures, is, falls, and}
-use Rattle.format.specs.Nest.{run}
+use Rattle.format.proofs.NestRun.{run}
 use Rattle.format.specs.Check.{listing}
 use Rattle.format.specs.Buffer.{rawShape}
-use Rattle.format.specs.Descent.{Upto}
+use Rattle.checker.specs.Descent.{Upto}
 use Rattle.checker.specs.Glance.{readerOf}
 use Rattle.checker.proofs.CheckReturns.{run-cases, kids-place}
 use Rattle.checker.proofs.check.check_run.Reads as check-run

@@ -1,7 +1,7 @@
 use Prim.Native.Nat.{_-_}
 use borrow.Author.Needs.{needs}
 use Rattle.format.specs.Buffer.{rawShape}
-use Rattle.format.specs.Descent.{ReadTo}
+use Rattle.checker.specs.Descent.{ReadTo}
 use Rattle.checker.specs.Glance.{readerOf}
 use Rattle.checker.proofs.CheckReturns.{read-cases}
 use Rattle.checker.proofs.check.read_on.Statement.{statement}

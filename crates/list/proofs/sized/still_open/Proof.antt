@@ -1,6 +1,7 @@
 use Prim.Native.Nat.{_≤_}
 use mathlib.Core.Path.{_≡_}
-use Rattle.format.specs.Nest.{stillOpen, openEnds}
+use Rattle.format.specs.Nest.{stillOpen}
+use Rattle.format.proofs.OpenEnds.{openEnds}
 use borrow.Author.Needs.{needs}
 use Rattle.list.proofs.Returns.{open-cases}
 use Rattle.list.proofs.sized.still_open.Statement.{statement}

@@ -2,7 +2,7 @@ use Prim.Native.Nat.{_-_, _≤_}
 use mathlib.Core.Path.{_≡_}
 use lib.ListN.{length}
 use Rattle.passes.specs.Run.{Advanced}
-use Rattle.format.specs.Holding.{holdingAll}
+use Rattle.format.specs.Builder.{holdingAll}
 use borrow.Author.Needs.{needs}
 use Rattle.passes.proofs.BytesReturns.{put-run-cases}
 use Rattle.passes.proofs.bytes.put_run.Statement.{statement}

@@ -8,21 +8,21 @@ use borrow.Author.Tests.{not-true, not-false, le-leb, le-ltb, eq-eqb, eqb-false,
 use lib.Dec.{eqb, ltb, leb}
 use lib.ListN.{length, take, getD}
 use lib.Seq.{getD-take}
-use Rattle.format.specs.Verdict.{Verdict, passed, refused, _andThen_, rule}
-use Rattle.format.specs.Word.{put}
-use Rattle.format.specs.WordList.{wordOf, listCount}
-use Rattle.format.specs.Root.{rangeFits}
-use Rattle.format.specs.Builder.{Builder, subtreeWords, leafWords, leafFits, subAt, endAt, openFit, disagrees, new, agreed, room, addTree, closeLast, butLast, openBefore, isAmong, pointVerdict, restorePoint, reachesPast, pointFits, restoreVerdict, restored, Step, push, openSubtree, closeSubtree, restore, stepVerdict, stepBuilder, stepWords, builderStep, builderRun, staysInside, builderFrom}
-use Rattle.format.specs.Frames.{Model, modelRun, keptIf, accepted, modelFrom}
 use Rattle.format.specs.Width.{closeAt, treeSize}
 use Rattle.format.specs.Part.{WordSpan, spanList}
+use Rattle.format.specs.Verdict.{Verdict, passed, refused, _andThen_, rule}
+use Rattle.format.specs.Word.{put}
+use Rattle.format.specs.WordList.{wordOf, listCount}
+use Rattle.format.specs.Root.{WordSpan, rangeFits, fiveWords}
+use Rattle.format.specs.Builder.{Builder, subtreeWords, leafWords, leafFits, subAt, endAt, openFit, disagrees, new, agreed, room, addTree, closeLast, butLast, openBefore, isAmong, pointVerdict, restorePoint, reachesPast, pointFits, restoreVerdict, restored, Step, push, openSubtree, closeSubtree, restore, stepVerdict, stepBuilder, stepWords, builderStep, builderRun, builderFrom}
+use Rattle.builder.specs.Frames.{Model, modelRun, keptIf, accepted, modelFrom, staysInside}
 use Rattle.format.proofs.Each.{and₄, true-false, both, rule-passed, all-each}
 use Rattle.format.proofs.Put.{put-length}
-use Rattle.format.proofs.Trees.{take-put}
-use Rattle.format.proofs.Forest.{pass-both}
-use Rattle.format.proofs.Framed.{Below, below-more, all-before}
-use Rattle.format.proofs.BuilderRun.{refused-keeps, after-step, agrees, holds-run}
-use Rattle.format.proofs.BuilderBuild.{held, always-agrees, always-within}
+use Rattle.builder.proofs.Trees.{take-put}
+use Rattle.builder.proofs.Forest.{pass-both}
+use Rattle.builder.proofs.Framed.{Below, below-more, all-before}
+use Rattle.builder.proofs.BuilderRun.{refused-keeps, after-step, agrees, holds-run}
+use Rattle.builder.proofs.BuilderBuild.{held, always-agrees, always-within}
 
 -- ---- what it is to agree
 

@@ -5,15 +5,15 @@ use mathlib.Core.Path.{_≡_, refl, sym, ap, _∙_}
 use native.Mathlib.Omega.{arith}
 use borrow.Author.Tests.{lt-ltb, le-ltb, eq-eqb, ne-eqb}
 use lib.Dec.{eqb, ltb}
 use Rattle.format.specs.Test.{if_then_else_}
 use Rattle.format.specs.Verdict.{Verdict, passed, refused, _andThen_, rule, eachFrom, each}
 use Rattle.format.specs.Reader.{Shape, Reader}
 use Rattle.format.specs.Plain.{endOf, sub}
-use Rattle.format.specs.Nest.{nest, rooted, run}
-use Rattle.format.specs.Check.{placeOf, reading, listing, stored, readRule, honestRule, check}
+use Rattle.format.specs.Nest.{nest, rooted}
+use Rattle.format.proofs.NestRun.{run, nest-as-run, run-done, run-leaf, run-three, run-four, run-sub}
+use Rattle.format.specs.Check.{placeOf, listing, stored, readRule, honestRule, check}
 use Rattle.format.proofs.Each.{then-passed, each-split}
-use Rattle.format.proofs.NestRun.{nest-as-run, run-done, run-leaf, run-three, run-four, run-sub}
-use Rattle.format.specs.Descent.{wrongAt, readRun, honestRun, LeafAt, SubtreeAt, Upto, Unnests, ReadTo, afterSizes}
+use Rattle.checker.specs.Descent.{wrongAt, readRun, honestRun, LeafAt, SubtreeAt, Upto, Unnests, ReadTo, afterSizes}
 
 -- ---- a run of trees, one rule each
 

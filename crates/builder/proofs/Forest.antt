@@ -9,17 +9,16 @@ use borrow.Author.Tests.{ltb-true, ltb-false}
 use lib.Dec.{ltb}
 use lib.ListN.{length, take, getD, length-append, List·getD-append}
 use lib.Seq.{getD-append-add, take-append-add}
-use Rattle.format.specs.Verdict.{Verdict, passed, _andThen_}
-use Rattle.format.specs.Plain.{Listing, endOf, sub}
-use Rattle.format.specs.Nest.{run}
-use Rattle.format.specs.Buffer.{wordShape}
-use Rattle.format.specs.WordList.{wordFields}
-use Rattle.format.specs.Builder.{wordIn}
-use Rattle.format.specs.Frames.{Trees}
 use Rattle.format.specs.Width.{treeSize}
+use Rattle.format.specs.Verdict.{Verdict, passed, _andThen_}
+use Rattle.format.specs.Plain.{Listing, endOf, sub}
+use Rattle.format.proofs.NestRun.{run, run-done, run-leaf, run-sub}
+use Rattle.format.specs.Buffer.{wordShape}
+use Rattle.format.specs.WordList.{wordFields}
+use Rattle.format.specs.Builder.{wordIn}
+use Rattle.builder.specs.Frames.{Trees}
 use Rattle.format.proofs.Each.{true-false}
-use Rattle.format.proofs.NestRun.{run-done, run-leaf, run-sub}
-use Rattle.format.proofs.Trees.{Sized, sized-append}
+use Rattle.builder.proofs.Trees.{Sized, sized-append}
 
 -- one tree, by its words
 pub record Fit (t : List ℕ) : Type 0 where

@@ -8,14 +8,15 @@ use borrow.Author.Tests.{not-true, le-leb, lt-leb, lt-ltb, le-ltb, eq-eqb, ne-eq
 use lib.Dec.{eqb, ltb, leb}
 use lib.ListN.{length, take, getD, length-append, List·getD-append}
 use lib.Seq.{getD-append-add, getD-append-seam, take-append-add, take-append-le, take-all}
-use Rattle.format.specs.WordList.{treeList, rawFrom, wordFields}
-use Rattle.format.specs.Root.{rangeFits}
-use Rattle.format.specs.Builder.{subtreeWords, wordIn, leafWords, leafFits, openBefore, isAmong}
-use Rattle.format.specs.Frames.{Trees, Frame, Model, whole, begun, withMade, withClosing, laid, added, cut}
+use Rattle.format.specs.WordList.{treeList}
 use Rattle.format.specs.Part.{WordSpan}
+use Rattle.format.specs.WordList.{thirteen, rawFrom, wordFields}
+use Rattle.format.specs.Root.{WordSpan, rangeFits}
+use Rattle.format.specs.Builder.{subtreeWords, wordIn, leafWords, leafFits, openBefore, isAmong}
+use Rattle.builder.specs.Frames.{Trees, Frame, Model, whole, begun, withMade, withClosing, laid, added, cut}
 use Rattle.format.proofs.Each.{and-left, and-right, true-false}
-use Rattle.format.proofs.Trees.{Sized, sized-append}
-use Rattle.format.proofs.Forest.{Fit, isSub, countIn, Forest, none, leaf, tree, Ends, forest-sized, forest-append, forest-ends, forest-cut}
+use Rattle.builder.proofs.Trees.{Sized, sized-append}
+use Rattle.builder.proofs.Forest.{Fit, isSub, countIn, Forest, none, leaf, tree, Ends, forest-sized, forest-append, forest-ends, forest-cut}
 
 -- ---- what holds of a frame, and of a stack of them
 

@@ -8,19 +8,20 @@ use borrow.Author.Tests.{not-true, le-leb, lt-ltb, le-ltb, ne-eqb, ltb-true, ltb
 use lib.Dec.{eqb, ltb, leb}
 use lib.ListN.{length, take, drop, getD, length-append, take-append-drop}
 use lib.Seq.{take-at, take-append-le, length-take-le}
-use Rattle.format.specs.Test.{if_then_else_}
-use Rattle.format.specs.Verdict.{Verdict, passed, refused, _andThen_, contents, rule, eachFrom}
-use Rattle.format.specs.Word.{put}
-use Rattle.format.specs.WordList.{wordOf, treeList, listCount}
-use Rattle.format.specs.Root.{rangeFits}
-use Rattle.format.specs.Builder.{Builder, Point, subtreeWords, leafWords, leafFits, subAt, endAt, openFit, disagrees, noBuilder, newBuilder, new, agreed, room, pushVerdict, openVerdict, closeVerdict, addTree, closeTree, closeLast, butLast, openBefore, isAmong, reachesPast, pointFits, restoreVerdict, restored, Step, push, openSubtree, closeSubtree, restore, stepVerdict, stepBuilder, stepWords, builderStep, builderRun}
-use Rattle.format.specs.Frames.{Trees, flat, Frame, Model, whole, begun, withClosing, laid, added, closeFrame, cut, modelStep, modelRun, newModel, accepted}
+use Rattle.format.specs.WordList.{treeList}
 use Rattle.format.specs.Width.{closeAt, treeSize}
 use Rattle.format.specs.Part.{WordSpan, spanList}
+use Rattle.format.specs.Test.{if_then_else_}
+use Rattle.format.specs.Verdict.{Verdict, passed, refused, _andThen_, contents, rule, eachFrom}
+use Rattle.format.specs.Word.{put}
+use Rattle.format.specs.WordList.{wordOf, thirteen, listCount}
+use Rattle.format.specs.Root.{WordSpan, rangeFits, fiveWords}
+use Rattle.format.specs.Builder.{Builder, Point, subtreeWords, leafWords, leafFits, subAt, endAt, openFit, disagrees, noBuilder, newBuilder, new, agreed, room, pushVerdict, openVerdict, closeVerdict, addTree, closeTree, closeLast, butLast, openBefore, isAmong, reachesPast, pointFits, restoreVerdict, restored, Step, push, openSubtree, closeSubtree, restore, stepVerdict, stepBuilder, stepWords, builderStep, builderRun}
+use Rattle.builder.specs.Frames.{Trees, flat, Frame, Model, whole, begun, withClosing, laid, added, closeFrame, cut, modelStep, modelRun, newModel, accepted}
 use Rattle.format.proofs.Each.{and-left, and-right, and₃, both, rule-passed, each-all}
-use Rattle.format.proofs.Trees.{put-seam, put-behind, Sized, flat-append, flat-length, flat-take, tree-at}
-use Rattle.format.proofs.Forest.{isSub, countIn, Forest, none}
-use Rattle.format.proofs.Framed.{FrameFit, Well, leaf-fit, laid-sized, laid-some, laid-more, well-deep, numbers, length-numbers, laid-head, laid-root, Clear, laid-ends, added-laid, added-numbers, added-well, closed-forest, cut-over, cut-is}
+use Rattle.builder.proofs.Trees.{put-seam, put-behind, Sized, flat-append, flat-length, flat-take, tree-at}
+use Rattle.builder.proofs.Forest.{isSub, countIn, Forest, none}
+use Rattle.builder.proofs.Framed.{FrameFit, Well, leaf-fit, laid-sized, laid-some, laid-more, well-deep, numbers, length-numbers, laid-head, laid-root, Clear, laid-ends, added-laid, added-numbers, added-well, closed-forest, cut-over, cut-is}
 
 -- ---- a refused step
 

@@ -3,12 +3,13 @@ use Prim.Native.Nat.{ℕ, _+_, _-_, _≤_}
 use mathlib.Core.Bool.{true, false}
 use mathlib.Core.Path.{_≡_}
 use lib.Dec.{ltb}
 use Rattle.format.specs.Test.{if_then_else_}
 use Rattle.format.specs.Verdict.{Verdict, passed, refused, _andThen_, eachFrom, each}
 use Rattle.format.specs.Reader.{Shape, Reader}
 use Rattle.format.specs.Plain.{endOf, sub}
-use Rattle.format.specs.Nest.{run, nest}
+use Rattle.format.specs.Nest.{nest}
+use Rattle.format.proofs.NestRun.{run}
 use Rattle.format.specs.Check.{placeOf, listing, stored, readRule, wholeRule, honestRule}
 
 -- the verdict of a lowest wrong subtree w of k trees; k says that there is none
 abbrev pub wrongAt : ℕ → ℕ → Verdict

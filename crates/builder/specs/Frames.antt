@@ -1,15 +1,16 @@
 -- The plain model of the builder, with no run of words: a stack of frames, one for the root and one for each open subtree.
 -- A frame has what its subtree was opened with and the trees made in it so far.
-use Prim.Native.Nat.{ℕ, _+_, _-_}
+use Prim.Native.Nat.{ℕ, zero, suc, _+_, _-_}
 use mathlib.Core.List.{List, [], _∷_, _++_}
-use mathlib.Core.Bool.{Bool, false, _&&_}
+use mathlib.Core.Bool.{Bool, true, false, _&&_}
 use lib.ListN.{length, take}
 use lib.Dec.{leb, eqb}
-use Rattle.format.specs.Test.{if_then_else_}
-use Rattle.format.specs.Verdict.{Verdict, passed, refused}
-use Rattle.format.specs.Buffer.{wordShape}
 use Rattle.format.specs.Part.{WordSpan}
+use Rattle.format.specs.Test.{if_then_else_}
+use Rattle.format.specs.Verdict.{Verdict, passed, refused}
+use Rattle.format.specs.Buffer.{wordShape}
+use Rattle.format.specs.Root.{WordSpan}
 use Rattle.format.specs.Builder.{Builder, subtreeWords, leafWords, Step, push, openSubtree, closeSubtree, restore, new, builderStep}
 
 -- trees in pre-order, each by its words
 abbrev pub Trees : Type 0
@@ -99,6 +100,15 @@ accepted [] b l = []
 accepted (s ∷ ss) b l =
     let a = builderStep s b l in
     keptIf (a .verdict) s (accepted ss (a .builder) (a .words))
+
+-- pushes, opens and closes, none of which closes a subtree that was open before them; d have been opened since
+unfoldable pub staysInside : ℕ → List Step → Bool
+staysInside d [] = true
+staysInside d (push w ∷ ss) = staysInside d ss
+staysInside d (openSubtree kind s ∷ ss) = staysInside (suc d) ss
+staysInside zero (closeSubtree s ∷ ss) = false
+staysInside (suc d) (closeSubtree s ∷ ss) = staysInside d ss
+staysInside d (restore p ∷ ss) = false
 
 -- what the accepted steps make
 unfoldable pub modelFrom : ℕ → WordSpan → WordSpan → List ℕ → List Step → Model
