@@ -7,13 +7,14 @@ use native.Mathlib.Omega.{arith}
 use lib.ListN.{getD}
 use lib.Dec.{eqb}
 use borrow.Author.Tests.{eqb-true, eq-eqb, ne-eqb}
-use Rattle.format.specs.WordList.{wordOf}
-use Rattle.format.specs.MakeTables.{liveAt, keyPlace, keyWord, keyPart, keyWords, alikeAt, sort, openPart, closePart}
+use Rattle.format.specs.WordList.{wordOf, openPart, closePart}
+use Rattle.format.specs.MakeTables.{liveAt, keyPlace, keyWord, keyPart, keyWords, alikeAt}
 use Rattle.format.specs.Width.{openAt, closeAt, treeSize}
 use Rattle.format.specs.Part.{partWords}
 use Rattle.format.proofs.Each.{and-left, and-right}
 use Rattle.format.proofs.NewsLaw.{Likeness}
 use Rattle.format.proofs.PartLaw.{same-part, part-same, words-part, part-from}
+use Rattle.format.proofs.ListTrees.{sort}
 
 -- ---- alike
 

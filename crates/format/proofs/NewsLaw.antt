@@ -9,8 +9,7 @@ use lib.ListN.{length, getD, length-append, List·getD-append}
 use lib.Seq.{getD-at}
 use Rattle.format.specs.Test.{if_then_else_}
 use Rattle.format.specs.Distinct.{anyIn, tally, news, hits, times}
-use Rattle.format.proofs.Tally.{amount, lt-or-le, any-none, any-at, any-some, tally-none, tally-step, amount-none, amount-one}
-use Rattle.format.specs.MakeTables.{total}
+use Rattle.format.proofs.Tally.{amount, lt-or-le, any-none, any-at, any-some, tally-none, tally-step, amount-none, amount-one, total}
 use Rattle.format.proofs.Each.{true-false}
 
 -- to be alike is an equivalence

@@ -7,7 +7,7 @@ use Rattle.format.specs.Verdict.{passed}
 use Rattle.format.specs.Reader.{Reader, one}
 use Rattle.format.specs.Walk.{skip}
 use Rattle.format.specs.Plain.{Listing, sub, plainWalkGo}
-use Rattle.format.specs.Laws.{Reads}
+use Rattle.format.proofs.ListRead.{Reads}
 use Rattle.format.specs.Check.{listing, stored}
 use Rattle.format.specs.Tables.{rules, ownTables}
 use Rattle.format.specs.Buffer.{wordShape, reader, ownReader, bufferCheck}

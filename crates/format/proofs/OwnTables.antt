@@ -14,9 +14,9 @@ use Rattle.format.specs.Nest.{nest}
 use Rattle.format.specs.Fields.{fields}
 use Rattle.format.specs.Tables.{Mode, limits, indexedBelow, ownMode, ownTables}
 use Rattle.format.specs.Buffer.{wordShape}
-use Rattle.format.specs.WordList.{wordOf, rawFrom, noClose, wordFields, listCount, given, listSized, rowTwo, listRules, listRows}
+use Rattle.format.specs.WordList.{wordOf, rawFrom, noClose, wordFields, listCount, given, listSized, rowTwo, listRules, listRows, openPart, closePart}
 use Rattle.format.specs.Writer.{find, isPart, partIndex, symbolIndex, present, rowFive, listVerdict}
-use Rattle.format.specs.MakeTables.{openPart, closePart, partTable, symbolTable, partTotal}
+use Rattle.format.specs.MakeTables.{partTable, symbolTable, partTotal}
 use Rattle.format.specs.Width.{partSize, openAt, closeAt, treeSize}
 use Rattle.format.specs.Part.{Part, partFrom, partAt}
 use Rattle.format.proofs.Each.{and-left, and-right, true-false, both, rule-passed, each-all, all-each}

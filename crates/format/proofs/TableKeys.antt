@@ -9,8 +9,8 @@ use lib.ListN.{length, getD, length-map}
 use Rattle.format.specs.Distinct.{tally}
 use Rattle.format.specs.Order.{range, falling, ordered}
 use Rattle.format.proofs.OrderLaw.{Sorted, all-mono, map-at, amount-map, range-map, falling-bound, falling-sorted, before-cases, sorted-before, sorted-only, sorted-map, ordered-few, ordered-many, ordered-length, ordered-lt, ordered-amount, ordered-total, ordered-member, ordered-apart}
-use Rattle.format.proofs.Tally.{amount, tally-most}
-use Rattle.format.specs.MakeTables.{keyCount, liveAt, keyWords, alikeAt, limitOf, keysOf, timesOf, tableKeys, tableCounts, total}
+use Rattle.format.proofs.Tally.{amount, tally-most, total}
+use Rattle.format.specs.MakeTables.{keyCount, liveAt, keyWords, alikeAt, limitOf, keysOf, timesOf, tableKeys, tableCounts}
 use Rattle.format.proofs.NewsLaw.{news-bound, news-live, news-rising, news-most, news-place, news-apart, news-first, counts-add-up}
 use Rattle.format.proofs.KeyLaw.{words-alike, likeness}
 

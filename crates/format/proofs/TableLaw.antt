@@ -8,16 +8,17 @@ use native.Mathlib.Omega.{arith}
 use lib.ListN.{length, getD, length-append}
 use lib.Dec.{eqb}
 use borrow.Author.Tests.{eqb-true, ne-eqb}
-use Rattle.format.specs.WordList.{wordOf, listCount}
+use Rattle.format.specs.WordList.{wordOf, listCount, openPart, closePart}
 use Rattle.format.specs.Distinct.{tally, hits}
 use Rattle.format.specs.MakeTables.{keyCount, liveAt, keyWord, keyPart, keyWords, alikeAt, timesOf, tableKeys, wordsOf, tableWords, rootParts}
-use Rattle.format.specs.MakeTables.{partTable, partCounts, symbolTable, symbolCounts, partTotal, sort, isIdent, isLiteral, isSubtree, openPart, closePart, total, below}
+use Rattle.format.specs.MakeTables.{partTable, partCounts, symbolTable, symbolCounts, partTotal}
 use Rattle.format.specs.Width.{partSize}
 use Rattle.format.specs.Part.{Part, partWords, samePart, partAt}
-use Rattle.format.proofs.Tally.{lt-or-le, tally-all, tally-same, tally-or, tally-not, tally-pairs}
+use Rattle.format.proofs.Tally.{lt-or-le, tally-all, tally-same, tally-or, tally-not, tally-pairs, total}
 use Rattle.format.proofs.PartLaw.{part-on}
 use Rattle.format.proofs.KeyLaw.{alike-words, alike-part, symbol-word, open-key, close-key, live-symbol, live-open, live-close}
 use Rattle.format.proofs.TableKeys.{key-below, key-live, key-place, key-words-apart, counts-many, count-at, counts-total, keys-most}
+use Rattle.format.proofs.ListTrees.{sort, identAt, literalAt, subtreeAt, below}
 
 -- ---- the words of keys, one key after the other
 
@@ -138,17 +139,17 @@ module _ (l : List ℕ) where
       let e : n - 1 + 1 ≡ n = omega arith in
       number-place (2 * (n - 1)) (openPart l n) (omega arith) (live-open l (n - 1)) (open-key l (n - 1) ∙ ap (openPart l) e)
 
-  pub close-place : (n : ℕ) → 1 ≤ n → n < listCount l → isSubtree l n ≡ true → (i : ℕ) × (i + 2 < partTotal l) × (partAt (partTable l) i ≡ closePart l n)
+  pub close-place : (n : ℕ) → 1 ≤ n → n < listCount l → subtreeAt l n ≡ true → (i : ℕ) × (i + 2 < partTotal l) × (partAt (partTable l) i ≡ closePart l n)
   close-place n a b s =
       let e : n - 1 + 1 ≡ n = omega arith in
-      number-place (2 * (n - 1) + 1) (closePart l n) (omega arith) (live-close l (n - 1) ∙ ap (isSubtree l) e ∙ s) (close-key l (n - 1) ∙ ap (closePart l) e)
+      number-place (2 * (n - 1) + 1) (closePart l n) (omega arith) (live-close l (n - 1) ∙ ap (subtreeAt l) e ∙ s) (close-key l (n - 1) ∙ ap (closePart l) e)
 
-  pub symbol-place : (n : ℕ) → 1 ≤ n → n < listCount l → (isIdent l n || isLiteral l n) ≡ true
+  pub symbol-place : (n : ℕ) → 1 ≤ n → n < listCount l → (identAt l n || literalAt l n) ≡ true
       → (i : ℕ) × (i < length (symbolTable l)) × (getD (symbolTable l) i 0 ≡ wordOf l n 1)
   unfolding keyCount
   symbol-place n a b s =
       let e : n - 1 + 1 ≡ n = omega arith in
-      let d : liveAt l true (n - 1) ≡ true = live-symbol l (n - 1) ∙ ap (λ (m : ℕ). isIdent l m || isLiteral l m) e ∙ s in
+      let d : liveAt l true (n - 1) ≡ true = live-symbol l (n - 1) ∙ ap (λ (m : ℕ). identAt l m || literalAt l m) e ∙ s in
       let h : n - 1 < listCount l - 1 = omega arith in
       at (symbol-word l (n - 1) ∙ ap (λ (m : ℕ). wordOf l m 1) e) (key-place l true (n - 1) h d)
     where
@@ -172,7 +173,7 @@ module _ (l : List ℕ) where
       key-words-apart l true i j (omega arith) (omega arith) (ap (λ (x : ℕ). x ∷ []) (sym (symbol-entry i h) ∙ e ∙ symbol-entry j g))
 
   pub part-occurs : (i : ℕ) → i + 2 < partTotal l
-      → (n : ℕ) × (1 ≤ n) × (n < listCount l) × ((partAt (partTable l) i ≡ openPart l n) ⊎ ((isSubtree l n ≡ true) × (partAt (partTable l) i ≡ closePart l n)))
+      → (n : ℕ) × (1 ≤ n) × (n < listCount l) × ((partAt (partTable l) i ≡ openPart l n) ⊎ ((subtreeAt l n ≡ true) × (partAt (partTable l) i ≡ closePart l n)))
   unfolding keyCount
   part-occurs i h =
       let n = parts-many in
@@ -193,7 +194,7 @@ module _ (l : List ℕ) where
       )
 
   pub symbol-occurs : (i : ℕ) → i < length (symbolTable l)
-      → (n : ℕ) × (1 ≤ n) × (n < listCount l) × ((isIdent l n || isLiteral l n) ≡ true) × (getD (symbolTable l) i 0 ≡ wordOf l n 1)
+      → (n : ℕ) × (1 ≤ n) × (n < listCount l) × ((identAt l n || literalAt l n) ≡ true) × (getD (symbolTable l) i 0 ≡ wordOf l n 1)
   unfolding keyCount
   symbol-occurs i h =
       let n = symbols-many in
@@ -214,7 +215,7 @@ module _ (l : List ℕ) where
 
   pub part-count : (i : ℕ) → i + 2 < partTotal l
       → getD (partCounts l) i 0
-      ≡ below l (λ n. samePart (partAt (partTable l) i) (openPart l n)) + below l (λ n. isSubtree l n && samePart (partAt (partTable l) i) (closePart l n))
+      ≡ below l (λ n. samePart (partAt (partTable l) i) (openPart l n)) + below l (λ n. subtreeAt l n && samePart (partAt (partTable l) i) (closePart l n))
   unfolding partCounts timesOf keyCount
   part-count i h =
       let n = parts-many in
@@ -228,11 +229,11 @@ module _ (l : List ℕ) where
       opens : (m : ℕ) → hits (liveAt l false) (alikeAt l false) v (2 * m) ≡ samePart (partAt (partTable l) i) (openPart l (m + 1))
       opens m = rw (live-open l m) (alike-same v (2 * m) ∙ ap₂ samePart (sym (part-entry i h)) (open-key l m))
 
-      closes : (m : ℕ) → hits (liveAt l false) (alikeAt l false) v (2 * m + 1) ≡ (isSubtree l (m + 1) && samePart (partAt (partTable l) i) (closePart l (m + 1)))
-      closes m = rw (live-close l m) (ap (λ b. isSubtree l (m + 1) && b) (alike-same v (2 * m + 1) ∙ ap₂ samePart (sym (part-entry i h)) (close-key l m)))
+      closes : (m : ℕ) → hits (liveAt l false) (alikeAt l false) v (2 * m + 1) ≡ (subtreeAt l (m + 1) && samePart (partAt (partTable l) i) (closePart l (m + 1)))
+      closes m = rw (live-close l m) (ap (λ b. subtreeAt l (m + 1) && b) (alike-same v (2 * m + 1) ∙ ap₂ samePart (sym (part-entry i h)) (close-key l m)))
 
   pub symbol-count : (i : ℕ) → i < length (symbolTable l)
-      → getD (symbolCounts l) i 0 ≡ below l (λ n. (isIdent l n || isLiteral l n) && eqb (getD (symbolTable l) i 0) (wordOf l n 1))
+      → getD (symbolCounts l) i 0 ≡ below l (λ n. (identAt l n || literalAt l n) && eqb (getD (symbolTable l) i 0) (wordOf l n 1))
   unfolding symbolCounts timesOf keyCount
   symbol-count i h =
       let n = symbols-many in
@@ -242,28 +243,28 @@ module _ (l : List ℕ) where
       v = getD (tableKeys l true) i 0
 
       stands : (m : ℕ) → hits (liveAt l true) (alikeAt l true) v m
-          ≡ ((isIdent l (m + 1) || isLiteral l (m + 1)) && eqb (getD (symbolTable l) i 0) (wordOf l (m + 1) 1))
+          ≡ ((identAt l (m + 1) || literalAt l (m + 1)) && eqb (getD (symbolTable l) i 0) (wordOf l (m + 1) 1))
       stands m = ap₂ (λ a b. a && b) (live-symbol l m) (alike-symbol v m ∙ ap₂ eqb (sym (symbol-entry i h)) (symbol-word l m))
 
   -- ---- the counts add up
 
   -- to leaves plus twice the subtrees below the root
-  pub part-counts-add-up : total (partCounts l) ≡ below l (λ n. not (isSubtree l n)) + 2 * below l (isSubtree l)
+  pub part-counts-add-up : total (partCounts l) ≡ below l (λ n. not (subtreeAt l n)) + 2 * below l (subtreeAt l)
   unfolding partCounts keyCount
   part-counts-add-up =
       let k = listCount l - 1 in
       let a : tally (λ m. liveAt l false (2 * m)) k ≡ k = tally-all (λ m. liveAt l false (2 * m)) k (λ m. live-open l m) in
-      let b : tally (λ m. liveAt l false (2 * m + 1)) k ≡ below l (isSubtree l) = tally-same _ _ k (λ m h. live-close l m) in
-      let c : below l (λ n. not (isSubtree l n)) + below l (isSubtree l) ≡ k = tally-not (λ m. isSubtree l (m + 1)) k in
+      let b : tally (λ m. liveAt l false (2 * m + 1)) k ≡ below l (subtreeAt l) = tally-same _ _ k (λ m h. live-close l m) in
+      let c : below l (λ n. not (subtreeAt l n)) + below l (subtreeAt l) ≡ k = tally-not (λ m. subtreeAt l (m + 1)) k in
       counts-total l false ∙ tally-pairs (liveAt l false) k ∙ omega arith
 
   -- to idents and literals
-  pub symbol-counts-add-up : total (symbolCounts l) ≡ below l (isIdent l) + below l (isLiteral l)
+  pub symbol-counts-add-up : total (symbolCounts l) ≡ below l (identAt l) + below l (literalAt l)
   unfolding symbolCounts keyCount
   symbol-counts-add-up =
       counts-total l true
-      ∙ tally-same (liveAt l true) (λ m. isIdent l (m + 1) || isLiteral l (m + 1)) (listCount l - 1) (λ m h. live-symbol l m)
-      ∙ tally-or (λ m. isIdent l (m + 1)) (λ m. isLiteral l (m + 1)) (listCount l - 1) (λ m e. other m (eqb-true (sort l (m + 1)) 1 e))
+      ∙ tally-same (liveAt l true) (λ m. identAt l (m + 1) || literalAt l (m + 1)) (listCount l - 1) (λ m h. live-symbol l m)
+      ∙ tally-or (λ m. identAt l (m + 1)) (λ m. literalAt l (m + 1)) (listCount l - 1) (λ m e. other m (eqb-true (sort l (m + 1)) 1 e))
     where
-      other : (m : ℕ) → sort l (m + 1) ≡ 1 → isLiteral l (m + 1) ≡ false
+      other : (m : ℕ) → sort l (m + 1) ≡ 1 → literalAt l (m + 1) ≡ false
       other m e = ne-eqb (sort l (m + 1)) 2 (λ z. absurd (omega arith))

@@ -11,6 +11,11 @@ use Rattle.format.specs.Test.{if_then_else_}
 use Rattle.format.specs.Distinct.{anyIn, tally}
 use Rattle.format.proofs.Each.{true-false}
 
+-- the sum of some counts
+unfoldable pub total : List ℕ → ℕ
+total [] = 0
+total (x ∷ xs) = x + total xs
+
 pub lt-or-le : (a b : ℕ) → (a < b) ⊎ (b ≤ a)
 lt-or-le a b = elim (decLt a b) [ yes h ↦ inl h | no n ↦ inr (omega arith) ]
 

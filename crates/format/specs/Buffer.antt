@@ -1,19 +1,18 @@
 -- A lent buffer with its tables and stated tree count: one tree read and judged, and the reader that the check, the walk and the cursor are defined over.
 use Prim.Native.Nat.{ℕ, _+_}
-use mathlib.Core.Bool.{Bool, true, false, not, _&&_}
+use mathlib.Core.Bool.{Bool, true, not, _&&_}
 use mathlib.Core.List.{List, []}
 use lib.ListN.{length, getD}
 use lib.Dec.{leb, eqb}
 use Rattle.format.specs.Test.{if_then_else_}
 use Rattle.format.specs.Verdict.{Verdict}
-use Rattle.format.specs.Span.{Span}
 use Rattle.format.specs.Reader.{Shape, Reader, Reply, got, bad}
 use Rattle.format.specs.Tree.{Raw, punct, isSubtree, countOf, treeAt}
 use Rattle.format.specs.Fields.{fields}
 use Rattle.format.specs.Tables.{TableRules, Tables, rules, countRules, ownTables}
 use Rattle.format.specs.Check.{check}
 
--- "The root is 33 bytes: 101, both spans heavy": of all forms only that one has 33. "A root not in the form below is 2 at tree 0."
+-- "The root is 33 bytes: 101, both spans heavy": 33 bytes are that form and no other (`root-form`, `form-root` in proofs/RootForm). "A root not in the form below is 2 at tree 0."
 abbrev pub formed : ℕ → ℕ → ℕ → Bool
 formed n p next = if eqb n 0 then eqb next (p + 33) else true
 

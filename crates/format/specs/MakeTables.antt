@@ -8,10 +8,10 @@ use lib.ListN.{length, getD}
 use lib.Dec.{leb, eqb}
 use Rattle.format.specs.Verdict.{Verdict, passed, refused, _andThen_, rule, contents}
 use Rattle.format.specs.Word.{put}
-use Rattle.format.specs.Width.{partSize, spanSize, openAt, closeAt, treeSize}
+use Rattle.format.specs.Width.{partSize, spanSize, openAt, treeSize}
 use Rattle.format.specs.Part.{Part, partWords, partFrom, samePart}
-use Rattle.format.specs.WordList.{wordOf, listCount, listRows}
-use Rattle.format.specs.Distinct.{tally, news, times}
+use Rattle.format.specs.WordList.{openPart, closePart, listCount, listRows}
+use Rattle.format.specs.Distinct.{news, times}
 use Rattle.format.specs.Order.{ordered}
 
 -- ---- the keys, "root excluded, open before close". `true` is the symbol table, `false` the part table
@@ -80,7 +80,7 @@ module _ (l : List ℕ) (symbols : Bool) where
 
 -- the root's open and close part
 abbrev pub rootParts : List ℕ → List ℕ
-rootParts l = partWords (partFrom (wordOf l 0) openAt) ++ partWords (partFrom (wordOf l 0) closeAt)
+rootParts l = partWords (openPart l 0) ++ partWords (closePart l 0)
 
 -- the root's two parts are the last two, and counts are "none for the root's two"
 unfoldable pub partTable : List ℕ → List ℕ
@@ -128,33 +128,3 @@ pub record TablesMade (l a b c d : List ℕ) (v : Verdict) (a′ b′ c′ d′ 
   pub partTallies : b′ ≡ contents v b (put b 0 (partCounts l))
   pub symbols : c′ ≡ contents v c (put c 0 (symbolTable l))
   pub symbolTallies : d′ ≡ contents v d (put d 0 (symbolCounts l))
-
--- ---- a list seen tree by tree, for the theorems
-
--- word 0: 0 punct, 1 ident, 2 literal, 3 subtree
-abbrev pub sort : List ℕ → ℕ → ℕ
-sort l n = wordOf l n 0
-
-abbrev pub isIdent : List ℕ → ℕ → Bool
-isIdent l n = eqb (sort l n) 1
-
-abbrev pub isLiteral : List ℕ → ℕ → Bool
-isLiteral l n = eqb (sort l n) 2
-
-abbrev pub isSubtree : List ℕ → ℕ → Bool
-isSubtree l n = eqb (sort l n) 3
-
-abbrev pub openPart : List ℕ → ℕ → Part
-openPart l n = partFrom (wordOf l n) openAt
-
-abbrev pub closePart : List ℕ → ℕ → Part
-closePart l n = partFrom (wordOf l n) closeAt
-
--- the sum of some counts
-unfoldable pub total : List ℕ → ℕ
-total [] = 0
-total (x ∷ xs) = x + total xs
-
--- how many trees below the root pass a test
-abbrev pub below : List ℕ → (ℕ → Bool) → ℕ
-below l f = tally (λ m. f (m + 1)) (listCount l - 1)

@@ -1,6 +1,6 @@
 -- The tables as a reader sees them: row 1 on their sizes, row 8 on a tree's indices, and a tree's list words by their entries.
 use Prim.Native.Nat.{ℕ, _+_, _*_, _-_, _/_, _%_}
-use mathlib.Core.Bool.{Bool, true, false, _&&_}
+use mathlib.Core.Bool.{Bool, false, _&&_}
 use mathlib.Core.List.{List, [], _∷_, _++_}
 use lib.ListN.{length, getD, drop}
 use lib.Dec.{ltb, leb, eqb}
@@ -61,7 +61,7 @@ module _ (N : Limits) where
   abbrev pub rowEight : ℕ → Raw → ℕ
   rowEight n t = if (if eqb n 0 then indexedRoot t else indexedBelow t) then 0 else 8
 
--- ---- one table mode: where a tree's indices lead
+-- ---- a table mode: where a tree's indices lead, for a reader and for a writer. Document 01's is one value of this record (`ownMode`)
 
 pub record Mode : Type 0 where
   -- row 1 is silent on the tables
@@ -102,7 +102,7 @@ module _ (M : Mode) where
 abbrev pub tablesSized : ℕ → ℕ → Bool
 tablesSized parts symbols = leb 2 parts && leb parts 2097152 && leb symbols 1048576
 
--- "part indices the last two of the table"
+-- "part indices the last two of the table"; with fewer than two row 1 refuses the tables
 abbrev pub ownLimits : ℕ → ℕ → Limits
 ownLimits parts symbols = record { limit = parts - 2; root = parts - 2; symbols = symbols }
 

@@ -33,7 +33,7 @@ module _ (M : Mode) where
   symbolIndex y = find (λ i. eqb (getD (M .symbols) i 0) y) (length (M .symbols)) 0
 
   module _ (l : List ℕ) where
-    -- tree n with its indices; the root's are "the last two of the table"
+    -- tree n with its indices; the root's are the mode's own, "the last two of the table"
     abbrev pub rawOf : ℕ → Raw
     rawOf n =
         let w : ℕ → ℕ = wordOf l n in
@@ -45,7 +45,7 @@ module _ (M : Mode) where
     raws zero n = []
     raws (suc j) n = rawOf n ∷ raws j (n + 1)
 
-    -- row 5: "part or symbol absent from its table, or the last two parts are not the root's"
+    -- row 5: "part or symbol absent from its table, or the last two parts are not the root's"; "root mismatch in 5 is tree 0"
     abbrev pub present : ℕ → Bool
     present n =
         let w : ℕ → ℕ = wordOf l n in

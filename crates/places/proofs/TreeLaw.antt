@@ -9,8 +9,7 @@ use lib.Dec.{eqb}
 use lib.ListN.{length, getD}
 use Rattle.format.specs.Width.{partSize}
 use Rattle.format.specs.Part.{samePart}
-use Rattle.format.specs.WordList.{wordOf, rawFrom}
-use Rattle.format.specs.MakeTables.{openPart, closePart}
+use Rattle.format.specs.WordList.{wordOf, rawFrom, openPart, closePart}
 use Rattle.format.specs.Writer.{find, isPart, partIndex, symbolIndex, rawOf}
 use Rattle.places.specs.Key.{symbolPart, keyAt, isKey, named}
 use Rattle.places.specs.declared.key.Layout.the-variants.{Parts, Symbols, Open, Close, Name}

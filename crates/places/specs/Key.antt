@@ -6,8 +6,7 @@ use lib.ListN.{length, getD}
 use lib.Dec.{eqb}
 use Rattle.format.specs.Width.{partSize}
 use Rattle.format.specs.Part.{Part, partFrom, samePart, partAt}
-use Rattle.format.specs.WordList.{wordOf, listCount}
-use Rattle.format.specs.MakeTables.{openPart, closePart}
+use Rattle.format.specs.WordList.{wordOf, listCount, openPart, closePart}
 use Rattle.places.specs.declared.key.Key.{Key}
 use Rattle.places.specs.declared.key.Layout.{Layout}
 use Rattle.places.specs.declared.key.Layout.the-variants.{Parts, Symbols, Open, Close, Name}
