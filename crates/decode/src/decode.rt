@@ -299,8 +299,28 @@ fn found(
     match tree {
         RawTree::Punct(p) => punct_found(limits, parts, pair, symbols, n, at, next, children, p),
         RawTree::Ident(p) => ident_found(limits, parts, pair, symbols, n, at, next, children, p),
-        RawTree::Literal(p) => literal_found(limits, parts, pair, symbols, n, at, next, children, p),
-        RawTree::Subtree(p) => subtree_found(limits, parts, pair, symbols, n, at, next, children, p),
+        RawTree::Literal(p) => literal_found(
+            limits,
+            parts,
+            pair,
+            symbols,
+            n,
+            at,
+            next,
+            children,
+            p,
+        ),
+        RawTree::Subtree(p) => subtree_found(
+            limits,
+            parts,
+            pair,
+            symbols,
+            n,
+            at,
+            next,
+            children,
+            p,
+        ),
     }
 }
 

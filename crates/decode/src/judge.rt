@@ -98,14 +98,28 @@ pub(crate) fn punct_row(limits: Limits, n: u32, at: usize, next: usize, part: u3
 }
 
 // An ident or a literal.
-pub(crate) fn symbol_row(limits: Limits, n: u32, at: usize, next: usize, part: u32, symbol: u32) -> u32
+pub(crate) fn symbol_row(
+    limits: Limits,
+    n: u32,
+    at: usize,
+    next: usize,
+    part: u32,
+    symbol: u32,
+) -> u32
     ensures { λ r. ⌜ r ≡ rowFrom n at next false (ltb part (limits .limit) && ltb symbol (limits .symbols)) ⌝ }
 {
     let below = both_below(part, limits.limit, symbol, limits.symbols);
     row_from(n, at, next, false, below)
 }
 
-pub(crate) fn subtree_row(limits: Limits, n: u32, at: usize, next: usize, opening: u32, closing: u32) -> u32
+pub(crate) fn subtree_row(
+    limits: Limits,
+    n: u32,
+    at: usize,
+    next: usize,
+    opening: u32,
+    closing: u32,
+) -> u32
     ensures { λ r. ⌜ r ≡ rowFrom n at next
         (eqb opening (limits .root) && eqb closing (limits .root + 1))
         (ltb opening (limits .limit) && ltb closing (limits .limit)) ⌝ }
