@@ -91,4 +91,4 @@ module _ (n d : ℕ) (a l parts symbols work out : List ℕ) (skips : Bool) (q :
       → BuildReplied (lent n d a) skips l parts symbols work out r work′ out′
   build-whole e h = record { reply = c ∙ rw e (ap reportCode (h .answer)); words = rw e (h .works); bytes = rw e (h .outs) }
 
-pub ruleset builder-cases = (step-stored, new-replied, push-replied, open-replied, close-replied, restore-replied, point-refused, point-taken, build-skips, build-whole)
+pub ruleset builder-cases = (step-stored, push-replied, restore-replied, point-refused, point-taken, build-skips, build-whole)
