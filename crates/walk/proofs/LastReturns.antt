@@ -1,15 +1,18 @@
 -- One law for each return of `last_span` and its parts, with premises as the code's tests and calls give them.
-use Prim.Native.Nat.{ℕ, _<_, _≤_}
-use mathlib.Core.Bool.{true, false}
+use Prim.Native.Nat.{ℕ, _/_, _<_, _≤_}
+use mathlib.Core.Bool.{Bool, true, false, not}
 use mathlib.Core.Path.{_≡_, sym, ap, _∙_, subst}
 use mathlib.Core.List.{List}
 use native.Mathlib.Omega.{arith}
-use borrow.Author.Tests.{lt-ltb}
+use borrow.Author.Tests.{lt-ltb, not-true}
 use lib.Dec.{ltb}
+use lib.ListN.{length}
 use Rattle.format.specs.Reader.{Reader, Answer, none, one, refused}
 use Rattle.format.specs.Walk as steps
-use Rattle.format.specs.Walk.{advance, skip, walkStep}
-use Rattle.format.specs.Buffer.{wordShape, ownReader}
+use Rattle.format.specs.Walk.{WalkCall, advance, skip, walkStep}
+use Rattle.format.specs.Width.{partSize}
+use Rattle.format.specs.Tables.{Mode, modeTables, ownLimits, ownMode}
+use Rattle.format.specs.Buffer.{wordShape, reader, ownReader}
 use Rattle.format.specs.LastSpan.{lastAfter, lastTree, endSpan, spanAnswer, lastSpan}
 use Rattle.format.proofs.LastSpan.{step-less, last-step}
 use Rattle.tree.specs.Types.{spanList, treeWordsOf}
@@ -23,9 +26,12 @@ use Rattle.tree.specs.declared.types.Leaf.{Leaf}
 use Rattle.tree.specs.declared.types.Leaf.the-variants as leaves
 use Rattle.tree.specs.declared.types.TokenTree.{TokenTree}
 use Rattle.tree.specs.declared.types.TokenTree.the-variants as trees
-use Rattle.walk.specs.Source.{treeShape, answerWords}
-use Rattle.walk.specs.Walk.{walkOf, answerOf, Stepped}
-use Rattle.walk.specs.Last.{lastOf, AtLast, Goes}
+use Rattle.tree.specs.Mode.{limitsOf, modeOf}
+use Rattle.tree.specs.declared.limits.Limits.{Limits}
+use Rattle.tree.proofs.OwnMode.{pairOf}
+use Rattle.walk.specs.Source.{sizes, treeShape, treeReaderIn, answerWords}
+use Rattle.walk.specs.Walk.{walkOf, answerOf, stepOf, stepWords}
+use Rattle.walk.specs.Last.{lastOf, lastIn, AtLast, Goes}
 use Rattle.walk.specs.declared.walk.Walk.{Walk}
 use Rattle.walk.specs.declared.walk.Answer.the-variants as answers
 use Rattle.walk.specs.declared.walk.Step.{Step}
@@ -33,6 +39,8 @@ use Rattle.walk.specs.declared.last_span.LastSpan.{LastSpan}
 use Rattle.walk.specs.declared.last_span.LastSpan.the-variants as spans
 use Rattle.walk.specs.declared.last_span.Last.{Last}
 use Rattle.walk.specs.declared.last_span.Last.the-variants.{Found, Of}
+use Rattle.walk.proofs.SizesReturns.{sizes-trees, sizes-whole, sizes-mode}
+use Rattle.walk.proofs.WalkWords.{inWords, walk-words}
 use Rattle.walk.proofs.WalkReturns.{leaf-flat, subtree-holds}
 
 -- ---- a leaf's span
@@ -54,9 +62,9 @@ pub ruleset leaf-cases = (punct-span, ident-span, literal-span)
 
 -- ---- one step of it
 
-module _ (b parts symbols : List ℕ) (k : ℕ) (w : Walk) where
+module _ (b : List ℕ) (M : Mode) (k : ℕ) (w : Walk) where
   abbrev O : Reader (List ℕ)
-  O = ownReader b k parts symbols
+  O = reader b k (modeTables M)
 
   abbrev past : steps.Walk
   past = walkStep wordShape O skip (walkOf w) .1
@@ -65,14 +73,17 @@ module _ (b parts symbols : List ℕ) (k : ℕ) (w : Walk) where
       → lastTree wordShape O (walkOf w) ≡ lastAfter wordShape O (lastTree wordShape O) (walkOf w) a past
   after a e = last-step wordShape O (walkOf w) ∙ ap (λ (x : Answer (List ℕ)). lastAfter wordShape O (lastTree wordShape O) (walkOf w) x past) e
 
+  words : (call : WalkCall) (s : Step) → stepOf s ≡ walkStep treeShape (treeReaderIn b k M) call (walkOf w) → stepWords s ≡ walkStep wordShape O call (walkOf w)
+  words call s e = ap inWords e ∙ walk-words b k M call (walkOf w)
+
   -- ---- the last tree
 
-  module _ (t : TokenTree) (p : AtLast b k parts symbols w t) where
+  module _ (t : TokenTree) (p : AtLast b k M w t) where
     over : ltb 0 (past .left) ≡ false
     over = ap (ltb 0) (p .last)
 
-    pub into-leaf : (l : Leaf) (s : Span) → t ≡ trees.Leaf l → spanList s ≡ endSpan (treeWordsOf (trees.Leaf l)) → Goes b k parts symbols w (Found (spans.Span s))
-    unfolding Goes lastOf
+    pub into-leaf : (l : Leaf) (s : Span) → t ≡ trees.Leaf l → spanList s ≡ endSpan (treeWordsOf (trees.Leaf l)) → Goes b k M w (Found (spans.Span s))
+    unfolding Goes lastOf lastIn
     into-leaf l s e f =
         let d : wordShape .isSub (treeWordsOf t) ≡ false = ap (treeShape .isSub) e ∙ leaf-flat l in
         let c : lastAfter wordShape O (lastTree wordShape O) (walkOf w) (one (treeWordsOf t)) past ≡ one (treeWordsOf t) = simp (over, d) in
@@ -89,20 +100,20 @@ module _ (b parts symbols : List ℕ) (k : ℕ) (w : Walk) where
       unfolding treeWordsOf
       closes = rw e
 
-      pub into-empty : q .len .0 ≡ 0 → Goes b k parts symbols w (Found (spans.Span (q .closing)))
-      unfolding Goes lastOf
+      pub into-empty : q .len .0 ≡ 0 → Goes b k M w (Found (spans.Span (q .closing)))
+      unfolding Goes lastOf lastIn
       into-empty h =
           let n : ltb 0 (wordShape .count (treeWordsOf t)) ≡ false = ap (ltb 0) (counts ∙ h) in
           let c : lastAfter wordShape O (lastTree wordShape O) (walkOf w) (one (treeWordsOf t)) past ≡ one (treeWordsOf t) = simp (over, holds, n) in
           ap one closes ∙ sym (ap spanAnswer (after (one (treeWordsOf t)) (p .answer) ∙ c))
 
-      pub into-on : (q .len .0 ≡ 0 → ⊥) → (s : Step) → Stepped b k parts symbols advance w s → Goes b k parts symbols w (Of (s .walk))
-      unfolding Goes
+      pub into-on : (q .len .0 ≡ 0 → ⊥) → (s : Step) → stepOf s ≡ walkStep treeShape (treeReaderIn b k M) advance (walkOf w) → Goes b k M w (Of (s .walk))
+      unfolding Goes lastIn
       into-on h s f =
           let i : 0 < wordShape .count (treeWordsOf t) = omega (arith, counts) in
           let n : ltb 0 (wordShape .count (treeWordsOf t)) ≡ true = lt-ltb _ _ i in
           let c : lastAfter wordShape O (lastTree wordShape O) (walkOf w) (one (treeWordsOf t)) past ≡ lastTree wordShape O (walkStep wordShape O advance (walkOf w) .1) = simp (over, holds, n) in
-          let v : walkStep wordShape O advance (walkOf w) .1 ≡ walkOf (s .walk) = sym (ap (λ x. x .1) (f .words)) in
+          let v : walkStep wordShape O advance (walkOf w) .1 ≡ walkOf (s .walk) = sym (ap (λ x. x .1) (words advance s f)) in
           record {
             same = ap spanAnswer (after (one (treeWordsOf t)) (p .answer) ∙ c ∙ ap (lastTree wordShape O) v);
             fewer = subst (λ (x : steps.Walk). x .left < w .left) v (step-less wordShape O (walkOf w) (treeWordsOf t) (p .answer) .1);
@@ -110,19 +121,19 @@ module _ (b parts symbols : List ℕ) (k : ℕ) (w : Walk) where
 
   -- ---- past one tree
 
-  module _ (s : Step) (e : Stepped b k parts symbols skip w s) where
+  module _ (s : Step) (e : stepOf s ≡ walkStep treeShape (treeReaderIn b k M) skip (walkOf w)) where
     to : past ≡ walkOf (s .walk)
-    to = sym (ap (λ x. x .1) (e .words))
+    to = sym (ap (λ x. x .1) (words skip s e))
 
     said : walkStep wordShape O skip (walkOf w) .0 ≡ answerWords (answerOf (s .answer))
-    said = sym (ap (λ x. x .0) (e .words))
+    said = sym (ap (λ x. x .0) (words skip s e))
 
-    pub go-refused : (r : Refusal) → s .answer ≡ answers.Refused r → Goes b k parts symbols w (Found (spans.Refused r))
-    unfolding Goes lastOf answerWords answerOf
+    pub go-refused : (r : Refusal) → s .answer ≡ answers.Refused r → Goes b k M w (Found (spans.Refused r))
+    unfolding Goes lastOf lastIn answerWords answerOf
     go-refused r q = sym (ap spanAnswer (after (refused (r .number) (r .tree)) (said ∙ rw q)))
 
-    pub go-none : s .answer ≡ answers.None → Goes b k parts symbols w (Found spans.None)
-    unfolding Goes lastOf answerWords answerOf
+    pub go-none : s .answer ≡ answers.None → Goes b k M w (Found spans.None)
+    unfolding Goes lastOf lastIn answerWords answerOf
     go-none q = sym (ap spanAnswer (after none (said ∙ rw q)))
 
     module _ (t : TokenTree) (q : s .answer ≡ answers.Tree t) where
@@ -130,8 +141,8 @@ module _ (b parts symbols : List ℕ) (k : ℕ) (w : Walk) where
       unfolding answerWords answerOf
       tells = said ∙ rw q
 
-      pub go-on : 0 < s .walk .left → Goes b k parts symbols w (Of (s .walk))
-      unfolding Goes
+      pub go-on : 0 < s .walk .left → Goes b k M w (Of (s .walk))
+      unfolding Goes lastIn
       go-on h =
           let n : ltb 0 (past .left) ≡ true = ap (λ (x : steps.Walk). ltb 0 (x .left)) to ∙ lt-ltb _ _ h in
           let c : lastAfter wordShape O (lastTree wordShape O) (walkOf w) (one (treeWordsOf t)) past ≡ lastTree wordShape O past = simp n in
@@ -140,7 +151,7 @@ module _ (b parts symbols : List ℕ) (k : ℕ) (w : Walk) where
             fewer = subst (λ (x : steps.Walk). x .left < w .left) to (step-less wordShape O (walkOf w) (treeWordsOf t) tells .0);
           }
 
-      pub go-last : s .walk .left ≤ 0 → AtLast b k parts symbols w t
+      pub go-last : s .walk .left ≤ 0 → AtLast b k M w t
       go-last h =
           let z : s .walk .left ≡ 0 = omega arith in
           record { answer = tells; last = ap (λ (x : steps.Walk). x .left) to ∙ z }
@@ -149,18 +160,35 @@ pub ruleset last-cases = (into-leaf, into-empty, into-on, go-refused, go-none, g
 
 -- ---- the loop, at walk w
 
-module _ (b parts symbols : List ℕ) (k : ℕ) (first w : Walk) (r : Last) (g : Goes b k parts symbols w r) where
-  module _ (i : lastSpan b k parts symbols (walkOf first) ≡ lastSpan b k parts symbols (walkOf w)) where
-    pub loop-found : (a : LastSpan) → r ≡ Found a → lastOf a ≡ lastSpan b k parts symbols (walkOf first)
+module _ (b : List ℕ) (M : Mode) (k : ℕ) (first w : Walk) (r : Last) (g : Goes b k M w r) where
+  module _ (i : lastIn b k M (walkOf first) ≡ lastIn b k M (walkOf w)) where
+    pub loop-found : (a : LastSpan) → r ≡ Found a → lastOf a ≡ lastIn b k M (walkOf first)
     unfolding Goes
-    loop-found a q = subst (Goes b k parts symbols w) q g ∙ sym i
+    loop-found a q = subst (Goes b k M w) q g ∙ sym i
 
-    pub loop-same : (v : Walk) → r ≡ Of v → lastSpan b k parts symbols (walkOf first) ≡ lastSpan b k parts symbols (walkOf v)
+    pub loop-same : (v : Walk) → r ≡ Of v → lastIn b k M (walkOf first) ≡ lastIn b k M (walkOf v)
     unfolding Goes
-    loop-same v q = i ∙ subst (Goes b k parts symbols w) q g .same
+    loop-same v q = i ∙ subst (Goes b k M w) q g .same
 
   pub loop-fewer : (v : Walk) → r ≡ Of v → v .left < w .left
   unfolding Goes
-  loop-fewer v q = subst (Goes b k parts symbols w) q g .fewer
+  loop-fewer v q = subst (Goes b k M w) q g .fewer
 
 pub ruleset loop-cases = (loop-found, loop-same, loop-fewer)
+
+-- ---- document 01's mode, behind row 1
+
+module _ (b parts symbols : List ℕ) (k : ℕ) (w : Walk) (s : Bool) (e : s ≡ sizes k parts symbols) where
+  pub whole-1 : not s ≡ true → lastOf (spans.Refused (record { number = 1; tree = 0 })) ≡ lastSpan b k parts symbols (walkOf w)
+  unfolding lastOf walkStep ownReader
+  whole-1 h =
+      let f : sizes k parts symbols ≡ false = sym e ∙ not-true s h in
+      let q : walkStep wordShape (ownReader b k parts symbols) skip (walkOf w) .0 ≡ refused 1 0 = simp f in
+      sym (ap spanAnswer (after b (ownMode parts symbols) k w (refused 1 0) q))
+
+  pub whole-last : not s ≡ false → (N : Limits) → limitsOf N ≡ ownLimits (length parts / partSize) (length symbols)
+      → (r : LastSpan) → lastOf r ≡ lastIn b k (modeOf N parts (pairOf N parts) symbols) (walkOf w) → lastOf r ≡ lastSpan b k parts symbols (walkOf w)
+  unfolding lastIn ownReader
+  whole-last h N d r q = q ∙ ap (λ (M : Mode). lastIn b k M (walkOf w)) (sizes-mode k parts symbols s e h N d)
+
+pub ruleset whole-cases = (sizes-trees, sizes-whole, whole-1, whole-last)

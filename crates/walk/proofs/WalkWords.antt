@@ -7,24 +7,25 @@ use lib.Dec.{leb, eqb, ltb}
 use lib.ListN.{length}
 use Rattle.format.specs.Reader.{Reader, Reply, got, bad, Answer}
 use Rattle.format.specs.Walk.{Walk, WalkCall, advance, skip, walkFits, walkRead, walkStep}
-use Rattle.format.specs.Buffer.{wordShape, ownReader}
+use Rattle.format.specs.Tables.{Mode, modeTables}
+use Rattle.format.specs.Buffer.{wordShape, reader}
 use Rattle.tree.specs.declared.types.TokenTree.{TokenTree}
-use Rattle.decode.specs.Decode.{decodedAt}
+use Rattle.decode.specs.Decode.{readIn}
 use Rattle.decode.proofs.DecodeUse.{worded, decoded-words}
-use Rattle.walk.specs.Source.{treeShape, treeReader, answerWords}
+use Rattle.walk.specs.Source.{treeShape, treeReaderIn, answerWords}
 
 -- a reader of the source's trees, shown by list words
 abbrev pub shown : Reader TokenTree → Reader (List ℕ)
 shown R = record { sized = R .sized; trees = R .trees; bytes = R .bytes; read = λ n p. worded (R .read n p) }
 
-module _ (b : List ℕ) (k : ℕ) (parts symbols : List ℕ) where
-  pub reads-decoded : (n p : ℕ) → treeReader b k parts symbols .read n p ≡ decodedAt b parts symbols n p
-  unfolding treeReader decodedAt
+module _ (b : List ℕ) (k : ℕ) (M : Mode) where
+  pub reads-decoded : (n p : ℕ) → treeReaderIn b k M .read n p ≡ readIn b M n p
+  unfolding treeReaderIn readIn
   reads-decoded n p = refl
 
-  pub own-shown : shown (treeReader b k parts symbols) ≡ ownReader b k parts symbols
-  unfolding treeReader ownReader decodedAt
-  own-shown = λ i. record { sized = ownReader b k parts symbols .sized; trees = k; bytes = length b; read = λ n p. decoded-words parts symbols n p b k i }
+  pub mode-shown : shown (treeReaderIn b k M) ≡ reader b k (modeTables M)
+  unfolding treeReaderIn readIn
+  mode-shown = λ i. record { sized = reader b k (modeTables M) .sized; trees = k; bytes = length b; read = λ n p. decoded-words M n p b k i }
 
 abbrev pub inWords : Answer TokenTree × Walk → Answer (List ℕ) × Walk
 inWords a = (answerWords (a .0), a .1)
@@ -55,7 +56,6 @@ module _ (R : Reader TokenTree) where
       go true true true f g h = simp (f, g, h)
       go true true false f g h = simp (f, g, h) (read-shown c w (R .read (w .number) (w .place)))
 
-pub walk-words : (b : List ℕ) (k : ℕ) (parts symbols : List ℕ) (c : WalkCall) (w : Walk)
-    → inWords (walkStep treeShape (treeReader b k parts symbols) c w) ≡ walkStep wordShape (ownReader b k parts symbols) c w
-walk-words b k parts symbols c w =
-    walk-shown (treeReader b k parts symbols) c w ∙ ap (λ (R : Reader (List ℕ)). walkStep wordShape R c w) (own-shown b k parts symbols)
+pub walk-words : (b : List ℕ) (k : ℕ) (M : Mode) (c : WalkCall) (w : Walk)
+    → inWords (walkStep treeShape (treeReaderIn b k M) c w) ≡ walkStep wordShape (reader b k (modeTables M)) c w
+walk-words b k M c w = walk-shown (treeReaderIn b k M) c w ∙ ap (λ (R : Reader (List ℕ)). walkStep wordShape R c w) (mode-shown b k M)

@@ -4,8 +4,9 @@ use mathlib.Core.Path.{_≡_}
 use mathlib.Core.List.{List}
 use Rattle.format.specs.Reader as format
 use Rattle.format.specs.Walk as steps
-use Rattle.format.specs.Buffer.{wordShape, ownReader}
-use Rattle.format.specs.LastSpan.{lastSpan}
+use Rattle.format.specs.Tables.{Mode, modeTables}
+use Rattle.format.specs.Buffer.{wordShape, reader}
+use Rattle.format.specs.LastSpan.{lastTree, spanAnswer}
 use Rattle.tree.specs.Types.{spanList, treeWordsOf}
 use Rattle.tree.specs.declared.types.TokenTree.{TokenTree}
 use Rattle.walk.specs.Walk.{walkOf}
@@ -21,16 +22,22 @@ lastOf (Span s) = format.one (spanList s)
 lastOf None = format.none
 lastOf (Refused r) = format.refused (r .number) (r .tree)
 
+-- ---- over the tables of a mode
+
+-- as `lastSpan`
+unfoldable pub lastIn : List ℕ → ℕ → Mode → steps.Walk → format.Answer (List ℕ)
+lastIn b k M w = spanAnswer (lastTree wordShape (reader b k (modeTables M)) w)
+
 -- the walk has gone past tree t, and none is left
-pub record AtLast (b : List ℕ) (k : ℕ) (parts symbols : List ℕ) (w : Walk) (t : TokenTree) : Type 0 where
-  pub answer : steps.walkStep wordShape (ownReader b k parts symbols) steps.skip (walkOf w) .0 ≡ format.one (treeWordsOf t)
-  pub last : steps.walkStep wordShape (ownReader b k parts symbols) steps.skip (walkOf w) .1 .left ≡ 0
+pub record AtLast (b : List ℕ) (k : ℕ) (M : Mode) (w : Walk) (t : TokenTree) : Type 0 where
+  pub answer : steps.walkStep wordShape (reader b k (modeTables M)) steps.skip (walkOf w) .0 ≡ format.one (treeWordsOf t)
+  pub last : steps.walkStep wordShape (reader b k (modeTables M)) steps.skip (walkOf w) .1 .left ≡ 0
 
 -- what is last of w is last of v, which has fewer left
-pub record Same (b : List ℕ) (k : ℕ) (parts symbols : List ℕ) (w v : Walk) : Type 0 where
-  pub same : lastSpan b k parts symbols (walkOf w) ≡ lastSpan b k parts symbols (walkOf v)
+pub record Same (b : List ℕ) (k : ℕ) (M : Mode) (w v : Walk) : Type 0 where
+  pub same : lastIn b k M (walkOf w) ≡ lastIn b k M (walkOf v)
   pub fewer : v .left < w .left
 
-unfoldable pub Goes : List ℕ → ℕ → List ℕ → List ℕ → Walk → Last → Type 0
-Goes b k parts symbols w (Found a) = lastOf a ≡ lastSpan b k parts symbols (walkOf w)
-Goes b k parts symbols w (Of v) = Same b k parts symbols w v
+unfoldable pub Goes : List ℕ → ℕ → Mode → Walk → Last → Type 0
+Goes b k M w (Found a) = lastOf a ≡ lastIn b k M (walkOf w)
+Goes b k M w (Of v) = Same b k M w v

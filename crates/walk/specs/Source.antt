@@ -4,14 +4,18 @@ use mathlib.Core.Bool.{Bool, _&&_}
 use mathlib.Core.List.{List, []}
 use lib.Dec.{leb}
 use Rattle.format.specs.Reader.{Shape, Reader, Answer, done, none, one, two, refused}
-use Rattle.format.specs.Tables.{rules, ownTables}
+use Rattle.format.specs.Tables.{rules, Mode, modeTables, ownMode, ownTables}
 use Rattle.format.specs.Buffer.{wordShape, rawShape, readerAs}
 use Rattle.tree.specs.Types.{resolved, treeWordsOf}
 use Rattle.tree.specs.declared.types.TokenTree.{TokenTree}
 
+-- "Trees: 1 to 1,048,576."
+abbrev pub treesSized : ℕ → Bool
+treesSized k = leb 1 k && leb k 1048576
+
 -- row 1 is silent: "size or stated tree count outside the bounds; .. part words of 3"
 abbrev pub sizes : ℕ → List ℕ → List ℕ → Bool
-sizes k parts symbols = leb 1 k && leb k 1048576 && ownTables parts symbols .sized
+sizes k parts symbols = treesSized k && ownTables parts symbols .sized
 
 -- sort and descendant count are those that the list words say
 abbrev pub treeShape : Shape TokenTree
@@ -19,12 +23,16 @@ treeShape =
     record {
       isSub = λ t. wordShape .isSub (treeWordsOf t);
       count = λ t. wordShape .count (treeWordsOf t);
-      blank = resolved [] [] (rawShape .blank);
+      blank = resolved (ownMode [] []) 0 (rawShape .blank);
     }
 
--- document 01's table mode, as `ownReader`, the tree shown by its entries
-unfoldable pub treeReader : List ℕ → ℕ → List ℕ → List ℕ → Reader TokenTree
-treeReader b k parts symbols = readerAs (λ n t. resolved parts symbols t) b k (rules (ownTables parts symbols))
+-- over the tables of one mode, the tree shown by its entries
+unfoldable pub treeReaderIn : List ℕ → ℕ → Mode → Reader TokenTree
+treeReaderIn b k M = readerAs (resolved M) b k (rules (modeTables M))
+
+-- document 01's table mode, as `ownReader`
+abbrev pub treeReader : List ℕ → ℕ → List ℕ → List ℕ → Reader TokenTree
+treeReader b k parts symbols = treeReaderIn b k (ownMode parts symbols)
 
 -- "A tree handed back is compared by its list words."
 unfoldable pub answerWords : Answer TokenTree → Answer (List ℕ)

@@ -1,6 +1,6 @@
 -- The answers of walk steps in document 01's numbers and values, and what a step promises.
 use Prim.Native.Nat.{ℕ, _+_, _-_, _<_, _≤_}
-use mathlib.Core.Bool.{Bool, true, false, not}
+use mathlib.Core.Bool.{Bool, true, false}
 use mathlib.Core.Path.{_≡_}
 use mathlib.Core.List.{List}
 use lib.Dec.{leb, ltb}
@@ -8,10 +8,11 @@ use lib.ListN.{length}
 use Rattle.format.specs.Test.{if_then_else_}
 use Rattle.format.specs.Reader as format
 use Rattle.format.specs.Walk as steps
+use Rattle.format.specs.Tables.{Mode}
 use Rattle.format.specs.Buffer.{wordShape, ownReader}
 use Rattle.tree.specs.declared.types.TokenTree.{TokenTree}
 use Rattle.decode.specs.declared.decode.TreeAt.{TreeAt}
-use Rattle.walk.specs.Source.{treeShape, treeReader, answerWords}
+use Rattle.walk.specs.Source.{treeShape, treeReaderIn, treeReader, answerWords}
 use Rattle.walk.specs.declared.walk.Walk.{Walk}
 use Rattle.walk.specs.declared.walk.Answer.{Answer}
 use Rattle.walk.specs.declared.walk.Answer.the-variants.{Tree, None, Refused}
@@ -44,11 +45,7 @@ pub record Stepped (b : List ℕ) (k : ℕ) (parts symbols : List ℕ) (call : s
   pub exact : stepOf r ≡ steps.walkStep treeShape (treeReader b k parts symbols) call (walkOf w)
   pub words : stepWords r ≡ steps.walkStep wordShape (ownReader b k parts symbols) call (walkOf w)
 
--- "Steps: 1; 10 if these pass the end": the number, or 0
-unfoldable pub walkRow : format.Reader TokenTree → steps.Walk → ℕ
-walkRow R w = if not (R .sized) then 1 else (if not (steps.walkFits treeShape R w) then 10 else 0)
-
--- ---- what both steps begin with
+-- ---- what both steps begin with, over the tables of a mode
 
 -- a tree is left, its number and place lie in the buffer
 pub record Within (b : List ℕ) (w : Walk) (y : TreeAt) : Type 0 where
@@ -56,16 +53,16 @@ pub record Within (b : List ℕ) (w : Walk) (y : TreeAt) : Type 0 where
   pub trees : w .number + w .left ≤ 1048576
   pub bytes : y .next ≤ length b
 
-pub record ReadAt (b : List ℕ) (k : ℕ) (parts symbols : List ℕ) (w : Walk) (y : TreeAt) : Type 0 where
-  pub step : (call : steps.WalkCall) → steps.walkStep treeShape (treeReader b k parts symbols) call (walkOf w)
-      ≡ steps.walkRead treeShape (treeReader b k parts symbols) call (walkOf w) (format.got (y .tree) (y .next) (y .children .0))
+pub record ReadAt (b : List ℕ) (k : ℕ) (M : Mode) (w : Walk) (y : TreeAt) : Type 0 where
+  pub step : (call : steps.WalkCall) → steps.walkStep treeShape (treeReaderIn b k M) call (walkOf w)
+      ≡ steps.walkRead treeShape (treeReaderIn b k M) call (walkOf w) (format.got (y .tree) (y .next) (y .children .0))
   pub within : Within b w y
 
 -- the step is over, or a tree is read
-unfoldable pub Begins : List ℕ → ℕ → List ℕ → List ℕ → Walk → Begun → Type 0
-Begins b k parts symbols w begun.None = (call : steps.WalkCall) → (format.none, walkOf w) ≡ steps.walkStep treeShape (treeReader b k parts symbols) call (walkOf w)
-Begins b k parts symbols w (begun.Refused r) = (call : steps.WalkCall) → (format.refused (r .number) (r .tree), walkOf w) ≡ steps.walkStep treeShape (treeReader b k parts symbols) call (walkOf w)
-Begins b k parts symbols w (begun.Read y) = ReadAt b k parts symbols w y
+unfoldable pub Begins : List ℕ → ℕ → Mode → Walk → Begun → Type 0
+Begins b k M w begun.None = (call : steps.WalkCall) → (format.none, walkOf w) ≡ steps.walkStep treeShape (treeReaderIn b k M) call (walkOf w)
+Begins b k M w (begun.Refused r) = (call : steps.WalkCall) → (format.refused (r .number) (r .tree), walkOf w) ≡ steps.walkStep treeShape (treeReaderIn b k M) call (walkOf w)
+Begins b k M w (begun.Read y) = ReadAt b k M w y
 
 -- passing a tree asks no more of a buffer than its length
 unfoldable pub passed : ℕ → steps.Walk → TreeAt → format.Answer TokenTree × steps.Walk

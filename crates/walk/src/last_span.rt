@@ -1,18 +1,24 @@
 // The last span of the trees that a walk has left.
+use crate::sizes::sized;
 use crate::walk::Answer;
 use crate::walk::Walk;
-use crate::walk::advance;
-use crate::walk::advance_skip_subtree;
+use crate::walk::walk_in;
+use tree::limits::Limits;
+use tree::limits::own_limits;
 use tree::refusal::Refusal;
 use tree::types::Leaf;
 use tree::types::Span;
 use tree::types::TokenTree;
+use width::PART_WORDS;
 ghost use mathlib.Core.Path.{_≡_};
+ghost use mathlib.Core.Bool.{true};
 ghost use Rattle.format.specs.LastSpan.{endSpan, lastSpan};
 ghost use Rattle.tree.specs.Types.{spanList, treeWordsOf};
+ghost use Rattle.tree.specs.Mode.{modeOf, Whole};
 ghost use Rattle.tree.specs.declared.types.TokenTree.the-variants as trees;
+ghost use Rattle.walk.specs.Source.{treesSized};
 ghost use Rattle.walk.specs.Walk.{walkOf};
-ghost use Rattle.walk.specs.Last.{lastOf, AtLast, Goes};
+ghost use Rattle.walk.specs.Last.{lastOf, lastIn, AtLast, Goes};
 
 pub enum LastSpan {
     Span(Span),
@@ -37,9 +43,21 @@ fn leaf_span(leaf: Leaf) -> Span
 }
 
 // The last tree of a walk, and into it if it holds any.
-fn into(b: &[u8], trees: u32, parts: &[u32], symbols: &[u32], walk: Walk, tree: TokenTree) -> Last
-    requires { ⌜ AtLast (now b) trees (now parts) (now symbols) walk tree ⌝ }
-    ensures { λ r. ⌜ Goes (now (b .entry)) trees (now (parts .entry)) (now (symbols .entry)) walk r ⌝ }
+fn into(
+    b: &[u8],
+    trees: u32,
+    limits: Limits,
+    parts: &[u32],
+    pair: &[u32],
+    symbols: &[u32],
+    walk: Walk,
+    tree: TokenTree,
+) -> Last
+    requires { ⌜ Whole limits (now parts) (now pair) (now symbols) ⌝ }
+    requires { ⌜ treesSized trees ≡ true ⌝ }
+    requires { ⌜ AtLast (now b) trees (modeOf limits (now parts) (now pair) (now symbols)) walk tree ⌝ }
+    ensures { λ r. ⌜ Goes (now (b .entry)) trees
+        (modeOf limits (now (parts .entry)) (now (pair .entry)) (now (symbols .entry))) walk r ⌝ }
 {
     match tree {
         TokenTree::Leaf(leaf) => Last::Found(LastSpan::Span(leaf_span(leaf))),
@@ -49,7 +67,7 @@ fn into(b: &[u8], trees: u32, parts: &[u32], symbols: &[u32], walk: Walk, tree: 
                 let closing = subtree.closing;
                 return Last::Found(LastSpan::Span(closing));
             }
-            let step = advance(b, trees, parts, symbols, walk);
+            let step = walk_in(b, trees, limits, parts, pair, symbols, walk, false);
             let then = step.walk;
             Last::Of(then)
         }
@@ -57,10 +75,21 @@ fn into(b: &[u8], trees: u32, parts: &[u32], symbols: &[u32], walk: Walk, tree: 
 }
 
 // Past one tree, or into it if it is the last.
-fn go_on(b: &[u8], trees: u32, parts: &[u32], symbols: &[u32], walk: Walk) -> Last
-    ensures { λ r. ⌜ Goes (now (b .entry)) trees (now (parts .entry)) (now (symbols .entry)) walk r ⌝ }
+fn go_on(
+    b: &[u8],
+    trees: u32,
+    limits: Limits,
+    parts: &[u32],
+    pair: &[u32],
+    symbols: &[u32],
+    walk: Walk,
+) -> Last
+    requires { ⌜ Whole limits (now parts) (now pair) (now symbols) ⌝ }
+    requires { ⌜ treesSized trees ≡ true ⌝ }
+    ensures { λ r. ⌜ Goes (now (b .entry)) trees
+        (modeOf limits (now (parts .entry)) (now (pair .entry)) (now (symbols .entry))) walk r ⌝ }
 {
-    let step = advance_skip_subtree(b, trees, parts, symbols, walk);
+    let step = walk_in(b, trees, limits, parts, pair, symbols, walk, true);
     let answer = step.answer;
     match answer {
         Answer::Refused(refusal) => Last::Found(LastSpan::Refused(refusal)),
@@ -70,22 +99,49 @@ fn go_on(b: &[u8], trees: u32, parts: &[u32], symbols: &[u32], walk: Walk) -> La
             if 0 < then.left {
                 return Last::Of(then);
             }
-            into(b, trees, parts, symbols, walk, tree)
+            into(b, trees, limits, parts, pair, symbols, walk, tree)
         }
     }
 }
 
-// Of a leaf its span, of a subtree that of its last descendant, of an empty one its closing span.
-pub fn last_span(b: &[u8], trees: u32, parts: &[u32], symbols: &[u32], walk: Walk) -> LastSpan
-    ensures { λ r. ⌜ lastOf r ≡ lastSpan (now (b .entry)) trees (now (parts .entry)) (now (symbols .entry))
-        (walkOf walk) ⌝ }
+// Of a leaf its span, of a subtree that of its last descendant, of an empty one its closing span. Row 1 was asked by
+// whoever knows the mode.
+pub fn last_in(
+    b: &[u8],
+    trees: u32,
+    limits: Limits,
+    parts: &[u32],
+    pair: &[u32],
+    symbols: &[u32],
+    walk: Walk,
+) -> LastSpan
+    requires { ⌜ Whole limits (now parts) (now pair) (now symbols) ⌝ }
+    requires { ⌜ treesSized trees ≡ true ⌝ }
+    ensures { λ r. ⌜ lastOf r ≡ lastIn (now (b .entry)) trees
+        (modeOf limits (now (parts .entry)) (now (pair .entry)) (now (symbols .entry))) (walkOf walk) ⌝ }
 {
     let mut here = walk;
     loop {
-        let last = go_on(b, trees, parts, symbols, here);
+        let last = go_on(b, trees, limits, parts, pair, symbols, here);
         match last {
             Last::Found(found) => return found,
             Last::Of(then) => here = then,
         }
     }
+}
+
+// Over a part table whose last two are the root's, row 1 first.
+pub fn last_span(b: &[u8], trees: u32, parts: &[u32], symbols: &[u32], walk: Walk) -> LastSpan
+    ensures { λ r. ⌜ lastOf r ≡ lastSpan (now (b .entry)) trees (now (parts .entry)) (now (symbols .entry))
+        (walkOf walk) ⌝ }
+{
+    if !sized(trees, parts, symbols) {
+        return LastSpan::Refused(Refusal {
+            number: 1,
+            tree: 0,
+        });
+    }
+    let limits = own_limits(parts.len() / PART_WORDS, symbols.len());
+    let pair = &parts[PART_WORDS * limits.limit..];
+    last_in(b, trees, limits, parts, pair, symbols, walk)
 }

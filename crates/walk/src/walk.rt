@@ -2,18 +2,24 @@
 use crate::sizes::sized;
 use decode::decode::TreeAt;
 use decode::decode::TreeRead;
-use decode::decode::decode_sized;
+use decode::decode::decode_in;
+use tree::limits::Limits;
+use tree::limits::own_limits;
 use tree::raw::Descendants;
 use tree::raw::place;
 use tree::refusal::Refusal;
 use tree::types::TokenTree;
+use width::PART_WORDS;
 ghost use mathlib.Core.Path.{_≡_};
+ghost use mathlib.Core.Bool.{true, _&&_};
 ghost use Prim.Native.Nat.{_+_, _-_, _<_, _≤_};
+ghost use lib.Dec.{leb};
 ghost use lib.ListN.{length};
 ghost use Rattle.format.specs.Reader.{none, one, refused};
-ghost use Rattle.format.specs.Walk.{advance, skip};
-ghost use Rattle.walk.specs.Source.{treeReader};
-ghost use Rattle.walk.specs.Walk.{walkOf, stepOf, walkRow, Within, Begins, passed, passedOver, callOf, Stepped};
+ghost use Rattle.format.specs.Walk.{advance, skip, walkStep};
+ghost use Rattle.tree.specs.Mode.{modeOf, Whole};
+ghost use Rattle.walk.specs.Source.{treesSized, treeShape, treeReaderIn};
+ghost use Rattle.walk.specs.Walk.{walkOf, stepOf, Within, Begins, passed, passedOver, callOf, Stepped};
 
 pub struct Walk {
     pub place: usize,
@@ -86,24 +92,20 @@ fn onward(walk: Walk, tree: TokenTree, trees: u32, next: usize) -> Step
     }
 }
 
-// Row 1 or 10, or 0.
-fn walk_row(b: &[u8], trees: u32, parts: &[u32], symbols: &[u32], walk: Walk) -> u32
-    ensures { λ r. ⌜ r ≡ walkRow (treeReader (now (b .entry)) trees (now (parts .entry)) (now (symbols .entry)))
-        (walkOf walk) ⌝ }
+// Whether row 10 is silent.
+fn fits(b: &[u8], trees: u32, walk: Walk) -> bool
+    ensures { λ r. ⌜ r ≡ (leb (walk .place) (length (now (b .entry))) && leb (walk .number + walk .left) trees) ⌝ }
 {
-    if !sized(trees, parts, symbols) {
-        return 1;
-    }
     if b.len() < walk.place {
-        return 10;
+        return false;
     }
     if trees < walk.left {
-        return 10;
+        return false;
     }
     if trees - walk.left < walk.number {
-        return 10;
+        return false;
     }
-    0
+    true
 }
 
 // What both steps begin with: the step is over, or a tree is read. A whole step in here would hold a tree at another
@@ -114,20 +116,30 @@ enum Begun {
     Read(TreeAt),
 }
 
-fn begin(b: &[u8], trees: u32, parts: &[u32], symbols: &[u32], walk: Walk) -> Begun
-    ensures { λ r. ⌜ Begins (now (b .entry)) trees (now (parts .entry)) (now (symbols .entry)) walk r ⌝ }
+fn begin(
+    b: &[u8],
+    trees: u32,
+    limits: Limits,
+    parts: &[u32],
+    pair: &[u32],
+    symbols: &[u32],
+    walk: Walk,
+) -> Begun
+    requires { ⌜ Whole limits (now parts) (now pair) (now symbols) ⌝ }
+    requires { ⌜ treesSized trees ≡ true ⌝ }
+    ensures { λ r. ⌜ Begins (now (b .entry)) trees
+        (modeOf limits (now (parts .entry)) (now (pair .entry)) (now (symbols .entry))) walk r ⌝ }
 {
-    let row = walk_row(b, trees, parts, symbols, walk);
-    if row != 0 {
+    if !fits(b, trees, walk) {
         return Begun::Refused(Refusal {
-            number: row,
+            number: 10,
             tree: 0,
         });
     }
     if walk.left == 0 {
         return Begun::None;
     }
-    let read = decode_sized(b, parts, symbols, walk.number, walk.place);
+    let read = decode_in(b, limits, parts, pair, symbols, walk.number, walk.place);
     match read {
         TreeRead::Refused(number) => Begun::Refused(Refusal {
             number: number,
@@ -166,11 +178,25 @@ fn past(b: &[u8], walk: Walk, here: TreeAt) -> Step
     }
 }
 
-// The next tree; with `skip` past all that it holds.
-pub fn walk_by(b: &[u8], trees: u32, parts: &[u32], symbols: &[u32], walk: Walk, skip: bool) -> Step
-    ensures { λ r. ⌜ Stepped (now (b .entry)) trees (now (parts .entry)) (now (symbols .entry)) (callOf skip) walk r ⌝ }
+// The next tree; with `skip` past all that it holds. Row 1 was asked by whoever knows the mode.
+pub fn walk_in(
+    b: &[u8],
+    trees: u32,
+    limits: Limits,
+    parts: &[u32],
+    pair: &[u32],
+    symbols: &[u32],
+    walk: Walk,
+    skip: bool,
+) -> Step
+    requires { ⌜ Whole limits (now parts) (now pair) (now symbols) ⌝ }
+    requires { ⌜ treesSized trees ≡ true ⌝ }
+    ensures { λ r. ⌜
+        stepOf r ≡ walkStep treeShape (treeReaderIn (now (b .entry)) trees
+        (modeOf limits (now (parts .entry)) (now (pair .entry)) (now (symbols .entry)))) (callOf skip) (walkOf walk)
+        ⌝ }
 {
-    let begun = begin(b, trees, parts, symbols, walk);
+    let begun = begin(b, trees, limits, parts, pair, symbols, walk);
     match begun {
         Begun::None => over(walk),
         Begun::Refused(refusal) => refuse(refusal.number, refusal.tree, walk),
@@ -182,6 +208,18 @@ pub fn walk_by(b: &[u8], trees: u32, parts: &[u32], symbols: &[u32], walk: Walk,
             onward(walk, tree, 1, here.next)
         }
     }
+}
+
+// Over a part table whose last two are the root's, row 1 first.
+pub fn walk_by(b: &[u8], trees: u32, parts: &[u32], symbols: &[u32], walk: Walk, skip: bool) -> Step
+    ensures { λ r. ⌜ Stepped (now (b .entry)) trees (now (parts .entry)) (now (symbols .entry)) (callOf skip) walk r ⌝ }
+{
+    if !sized(trees, parts, symbols) {
+        return refuse(1, 0, walk);
+    }
+    let limits = own_limits(parts.len() / PART_WORDS, symbols.len());
+    let pair = &parts[PART_WORDS * limits.limit..];
+    walk_in(b, trees, limits, parts, pair, symbols, walk, skip)
 }
 
 // The next tree.

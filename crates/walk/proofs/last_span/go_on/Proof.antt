@@ -3,39 +3,30 @@ use Rattle.walk.proofs.LastReturns.{last-cases}
 use Rattle.walk.proofs.last_span.go_on.Statement.{statement}
 use Rattle.walk.proofs.last_span.go_on.Tie as tie
 
--- src/last_span.rt:63:9
-advance-skip-subtree-requires : tie.Need-advance-skip-subtree-requires
-advance-skip-subtree-requires c κs = search (needs, last-cases)
+walk-in-requires : tie.Need-walk-in-requires
+walk-in-requires c κs = search (needs, last-cases)
 
--- src/last_span.rt:66:25
 enum-known-answer : tie.Need-enum-known-answer
 enum-known-answer c = search (needs, last-cases)
 
--- src/last_span.rt:67:37
 enum-told : tie.Need-enum-told
 enum-told c = search (needs, last-cases)
 
--- src/last_span.rt:68:22
 enum-known-answer-2 : tie.Need-enum-known-answer-2
 enum-known-answer-2 c = search (needs, last-cases)
 
--- src/last_span.rt:71:17
 returns : tie.Need-returns
 returns c = search (needs, last-cases)
 
--- src/last_span.rt:73:13
 into-requires : tie.Need-into-requires
-into-requires c κs = search (needs, last-cases)
+into-requires c κs = (search needs, (search needs, search (needs, last-cases)))
 
--- src/last_span.rt:60:1
 returns-2 : tie.Need-returns-2
 returns-2 c = search (needs, last-cases)
 
--- src/last_span.rt:60:1
 returns-3 : tie.Need-returns-3
 returns-3 c = search (needs, last-cases)
 
--- src/last_span.rt:60:1
 returns-4 : tie.Need-returns-4
 returns-4 c = search (needs, last-cases)
 
@@ -43,7 +34,7 @@ pub go-on-spec : {M : Type 1} → statement M
 go-on-spec =
     tie.close
     (tie.spec
-    advance-skip-subtree-requires
+    walk-in-requires
     enum-known-answer
     enum-told
     enum-known-answer-2

@@ -1,55 +1,49 @@
 use borrow.Author.Needs.{needs}
-use mathlib.Core.Path.{_≡_}
-use Rattle.format.specs.LastSpan.{lastSpan}
-use Rattle.walk.specs.Walk.{walkOf}
-use Rattle.walk.proofs.LastReturns.{loop-cases}
+use Rattle.walk.proofs.LastReturns.{whole-cases}
 use Rattle.walk.proofs.last_span.last_span.Statement.{statement}
 use Rattle.walk.proofs.last_span.last_span.Tie as tie
 
-abbrev Inv-loop : tie.InvT-loop
-Inv-loop b trees parts symbols here₀ here = lastSpan b trees parts symbols (walkOf here₀) ≡ lastSpan b trees parts symbols (walkOf here)
+sized-requires : tie.Need-sized-requires
+sized-requires c κs = search (needs, whole-cases)
 
-abbrev μ-loop : tie.MeasureT-loop
-μ-loop b trees parts symbols here₀ here = here .left
+returns : tie.Need-returns
+returns c = search (needs, whole-cases)
 
--- src/last_span.rt:83:5
-loop-holds : tie.Need-loop-holds Inv-loop μ-loop
-loop-holds c = search (needs, loop-cases)
+own-limits-requires : tie.Need-own-limits-requires
+own-limits-requires c κs = search (needs, whole-cases)
 
--- src/last_span.rt:84:13
-go-on-requires : tie.Need-go-on-requires Inv-loop μ-loop
-go-on-requires c κs = search (needs, loop-cases)
+mul-pair : tie.Need-mul-pair
+mul-pair c = search (needs, whole-cases)
 
--- src/last_span.rt:86:25
-enum-known-last : tie.Need-enum-known-last Inv-loop μ-loop
-enum-known-last c = search (needs, loop-cases)
+mul-pair-2 : tie.Need-mul-pair-2
+mul-pair-2 c = search (needs, whole-cases)
 
--- src/last_span.rt:86:35
-returns : tie.Need-returns Inv-loop μ-loop
-returns c = search (needs, loop-cases)
+sub-pair : tie.Need-sub-pair
+sub-pair c = search (needs, whole-cases)
 
--- src/last_span.rt:87:22
-enum-known-last-2 : tie.Need-enum-known-last-2 Inv-loop μ-loop
-enum-known-last-2 c = search (needs, loop-cases)
+part-pair-start : tie.Need-part-pair-start
+part-pair-start c = search (needs, whole-cases)
 
--- src/last_span.rt:83:5
-loop-less : tie.Need-loop-less Inv-loop μ-loop
-loop-less c = search (needs, loop-cases)
+part-pair-end : tie.Need-part-pair-end
+part-pair-end c = search (needs, whole-cases)
 
--- src/last_span.rt:83:5
-loop-again : tie.Need-loop-again Inv-loop μ-loop
-loop-again c = search (needs, loop-cases)
+last-in-requires : tie.Need-last-in-requires
+last-in-requires c κs = (search (needs, whole-cases), search (needs, whole-cases))
+
+returns-2 : tie.Need-returns-2
+returns-2 c = search (needs, whole-cases)
 
 pub last-span-spec : {M : Type 1} → statement M
 last-span-spec =
     tie.close
     (tie.spec
-    Inv-loop
-    μ-loop
-    loop-holds
-    go-on-requires
-    enum-known-last
+    sized-requires
     returns
-    enum-known-last-2
-    loop-less
-    loop-again)
+    own-limits-requires
+    mul-pair
+    mul-pair-2
+    sub-pair
+    part-pair-start
+    part-pair-end
+    last-in-requires
+    returns-2)

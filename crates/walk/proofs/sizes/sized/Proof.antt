@@ -2,10 +2,6 @@ use borrow.Author.Needs.{needs}
 use Rattle.walk.proofs.SizesReturns.{sized-cases}
 use Rattle.walk.proofs.sizes.sized.Statement.{statement}
 use Rattle.walk.proofs.sizes.sized.Tie as tie
-use Rattle.walk.proofs.sizes.sized.Reads as reads
-use Rattle.walk.proofs.sizes.sized.Lts as lts
-use Rattle.tree.proofs.sizes.tables_sized.Reads as tables-sized-reads
-use Rattle.tree.proofs.sizes.trees_sized.Reads as trees-sized-reads
 
 -- src/sizes.rt:11:9
 trees-sized-requires : tie.Need-trees-sized-requires

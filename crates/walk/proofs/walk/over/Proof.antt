@@ -2,8 +2,6 @@ use borrow.Author.Needs.{needs}
 use Rattle.walk.proofs.WalkReturns.{walk-cases}
 use Rattle.walk.proofs.walk.over.Statement.{statement}
 use Rattle.walk.proofs.walk.over.Tie as tie
-use Rattle.walk.proofs.walk.over.Reads as reads
-use Rattle.walk.proofs.walk.over.Lts as lts
 
 -- src/walk.rt:61:1
 returns : tie.Need-returns
