@@ -8,7 +8,7 @@ use native.Mathlib.Nat.{add-zero}
 use borrow.Author.Tests.{eq-eqb, eqb-true}
 use lib.Dec.{eqb}
 use lib.ListN.{getD, drop}
-use lib.Seq.{getD-drop}
+use lib.Seq.{getD-drop, getD-append-add}
 use Rattle.format.specs.Width.{partSize}
 use Rattle.format.specs.Part.{Part, partWords, partFrom, samePart, partAt, WordSpan, sameSpan}
 use Rattle.format.proofs.Each.{and₃}
@@ -61,14 +61,6 @@ part-from w v k same =
 
 -- ---- a table of parts
 
--- one part on
-pub part-on : (p : Part) (t : List ℕ) (i : ℕ) → partAt (partWords p ++ t) (suc i) ≡ partAt t i
-part-on p t i =
-    let e₁ : partSize * suc i + 1 ≡ suc (suc (suc (partSize * i + 1))) = omega arith in
-    let e₂ : partSize * suc i + 2 ≡ suc (suc (suc (partSize * i + 2))) = omega arith in
-    let e₀ : partSize * suc i ≡ suc (suc (suc (partSize * i))) = omega arith in
-    rw (e₁, e₂, e₀)
-
 -- an entry turns on its words alone
 pub entry-same : (t u : List ℕ) (i k : ℕ) → ((j : ℕ) → j < partSize → getD t (partSize * i + j) 0 ≡ getD u (partSize * k + j) 0) → partAt t i ≡ partAt u k
 entry-same t u i k same =
@@ -76,6 +68,14 @@ entry-same t u i k same =
     let b = same 1 (omega arith) in
     let c = same 2 (omega arith) in
     λ x. record { file = a x; ast = b x; context = c x }
+
+-- one part on
+pub part-on : (p : Part) (t : List ℕ) (i : ℕ) → partAt (partWords p ++ t) (suc i) ≡ partAt t i
+part-on p t i =
+    entry-same (partWords p ++ t) t (suc i) i
+    (λ j h.
+    let e : partSize * suc i + j ≡ partSize + (partSize * i + j) = omega arith in
+    ap (λ (y : ℕ). getD (partWords p ++ t) y 0) e ∙ getD-append-add (partWords p) t (partSize * i + j) 0)
 
 pub part-drop : (t : List ℕ) (i j : ℕ) → partAt (drop (partSize * i) t) j ≡ partAt t (i + j)
 part-drop t i j =
