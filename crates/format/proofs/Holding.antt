@@ -17,9 +17,11 @@ use Rattle.format.specs.Tables.{Mode, limits, indexedBelow}
 use Rattle.format.specs.WordList.{wordOf, treeList, rawFrom, wordFields, listCount, given, rowTwo, listRules}
 use Rattle.format.specs.Writer.{partIndex, symbolIndex, rawOf, raws, present, rowFive}
 use Rattle.format.specs.Width.{openAt, closeAt, treeSize}
-use Rattle.format.specs.Part.{partFrom}
+use Rattle.format.specs.Part.{partFrom, samePart, partAt, spanFrom, indexed}
+use Rattle.format.specs.Fields.{spanFits}
 use Rattle.format.specs.Builder.{holdingAll}
 use Rattle.format.proofs.Each.{and-right, both, refused-not}
+use Rattle.format.proofs.PartLaw.{from-same}
 
 module _ (l : List ℕ) where
   pub holding-length : length (holdingAll l) ≡ length l
@@ -64,6 +66,10 @@ module _ (l : List ℕ) where
   pub holding-words : (n : ℕ) → 1 ≤ n → wordOf (holdingAll l) n ≡ wordOf l n
   holding-words n h = λ i j. holding-other (treeSize * n + j) (not-one n j h) i
 
+  -- of the root's spans
+  holding-span : (k : ℕ) → 2 ≤ k → spanFrom (wordOf (holdingAll l) 0) k ≡ spanFrom (wordOf l 0) k
+  holding-span k h = from-same (wordOf (holdingAll l) 0) (wordOf l 0) k (λ j g. holding-other (treeSize * 0 + j) (λ e. omega arith))
+
   -- ---- row 5 and the trees with their indices
 
   module _ (M : Mode) where
@@ -79,13 +85,9 @@ module _ (l : List ℕ) where
 
     pub holding-present : (n : ℕ) → present M (holdingAll l) n ≡ present M l n
     holding-present zero =
-        let e₃ = holding-other 3 (λ e. absurd (omega arith)) in
-        let e₄ = holding-other 4 (λ e. absurd (omega arith)) in
-        let e₅ = holding-other 5 (λ e. absurd (omega arith)) in
-        let e₈ = holding-other 8 (λ e. absurd (omega arith)) in
-        let e₉ = holding-other 9 (λ e. absurd (omega arith)) in
-        let e₁₀ = holding-other 10 (λ e. absurd (omega arith)) in
-        rw (e₃, e₄, e₅, e₈, e₉, e₁₀)
+        let o = holding-span openAt (omega arith) in
+        let c = holding-span closeAt (omega arith) in
+        λ i. samePart (partAt (M .pair) 0) (o i .part) && samePart (partAt (M .pair) 1) (c i .part)
     holding-present (suc n) =
         let e : eqb (suc n) 0 ≡ false = ne-eqb (suc n) 0 (λ q. absurd (omega arith)) in
         simp e (ap (λ (w : ℕ → ℕ). indexedBelow (limits M)
@@ -105,11 +107,9 @@ module _ (l : List ℕ) where
           let root = eqb-true (getD l 0 0) 3 t in
           let e₀ = holding-other 0 (λ e. absurd (omega arith)) in
           let e₂ = holding-other 2 (λ e. absurd (omega arith)) in
-          let e₆ = holding-other 6 (λ e. absurd (omega arith)) in
-          let e₇ = holding-other 7 (λ e. absurd (omega arith)) in
-          let e₁₁ = holding-other 11 (λ e. absurd (omega arith)) in
-          let e₁₂ = holding-other 12 (λ e. absurd (omega arith)) in
-          rw (e₀, root) (rw (e₂, e₆, e₇, e₁₁, e₁₂))
+          let o = holding-span openAt (omega arith) in
+          let c = holding-span closeAt (omega arith) in
+          rw (e₀, root) (λ i. (spanFits (indexed 0 (o i)) && spanFits (indexed 0 (c i)) && leb (e₂ i) 3) && true)
       go false t = ap (λ m. wordFields (wordOf m 0)) (holding-leaf (eqb-false (getD l 0 0) 3 t))
   holding-fields (suc n) = ap wordFields (holding-words (suc n) (omega arith))
 

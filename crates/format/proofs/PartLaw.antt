@@ -1,5 +1,5 @@
 -- Parts and spans by their words: equal exactly where the tests say so. What stands in a part, and how many words, is asked for here alone.
-use Prim.Native.Nat.{ℕ, suc, _+_, _*_, _<_}
+use Prim.Native.Nat.{ℕ, suc, _+_, _*_, _<_, _≤_}
 use mathlib.Core.Bool.{true}
 use mathlib.Core.Path.{_≡_, ap, _∙_}
 use mathlib.Core.List.{List, [], _∷_, _++_}
@@ -10,7 +10,7 @@ use lib.Dec.{eqb}
 use lib.ListN.{getD, drop}
 use lib.Seq.{getD-drop, getD-append-add}
 use Rattle.format.specs.Width.{partSize}
-use Rattle.format.specs.Part.{Part, partWords, partFrom, samePart, partAt, WordSpan, sameSpan}
+use Rattle.format.specs.Part.{Part, partWords, partFrom, samePart, partAt, WordSpan, spanFrom, sameSpan}
 use Rattle.format.proofs.Each.{and₃}
 
 pub same-part : (p q : Part) → samePart p q ≡ true → p ≡ q
@@ -58,6 +58,16 @@ part-from w v k same =
     let b = same 1 in
     let c = same 2 in
     λ i. record { file = a i; ast = b i; context = c i }
+
+-- a span turns on its words alone
+pub from-same : (w v : ℕ → ℕ) (k : ℕ) → ((j : ℕ) → k ≤ j → w j ≡ v j) → spanFrom w k ≡ spanFrom v k
+from-same w v k same =
+    let a = same k (omega arith) in
+    let b = same (k + 1) (omega arith) in
+    let c = same (k + 2) (omega arith) in
+    let s = same (k + partSize) (omega arith) in
+    let l = same (k + partSize + 1) (omega arith) in
+    λ i. record { part = record { file = a i; ast = b i; context = c i }; start = s i; len = l i }
 
 -- ---- a table of parts
 
