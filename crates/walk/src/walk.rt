@@ -50,7 +50,7 @@ pub fn fresh(trees: u32) -> Walk
     }
 }
 
-fn refuse(number: u32, tree: u32, walk: Walk) -> Step
+pub fn refuse(number: u32, tree: u32, walk: Walk) -> Step
     ensures { λ r. ⌜ stepOf r ≡ (refused number tree, walkOf walk) ⌝ }
 {
     let refusal = Refusal {
