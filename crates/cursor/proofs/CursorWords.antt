@@ -7,12 +7,13 @@ use lib.Dec.{leb, eqb}
 use lib.ListN.{length}
 use Rattle.format.specs.Reader.{Reader, Reply, got, bad, Answer}
 use Rattle.format.specs.Cursor.{Open, Cursor, CursorCall, bump, end, bumpOrEnd, tokenTree, peekTwoLeaves, closing, within, cursorFits, bumped, goOn, shut, shutLast, treeHere, secondLeaf, firstLeaf, cursorCall, cursorStep}
-use Rattle.format.specs.Buffer.{wordShape, ownReader}
+use Rattle.format.specs.Tables.{Mode, modeTables}
+use Rattle.format.specs.Buffer.{wordShape, reader}
 use Rattle.tree.specs.Types.{treeWordsOf}
 use Rattle.tree.specs.declared.types.TokenTree.{TokenTree}
 use Rattle.decode.proofs.DecodeUse.{worded}
-use Rattle.walk.specs.Source.{treeShape, treeReader, answerWords}
-use Rattle.walk.proofs.WalkWords.{shown, own-shown}
+use Rattle.walk.specs.Source.{treeShape, treeReaderIn, answerWords}
+use Rattle.walk.proofs.WalkWords.{shown, mode-shown}
 
 abbrev pub callWords : Answer TokenTree × Cursor → Answer (List ℕ) × Cursor
 callWords a = (answerWords (a .0), a .1)
@@ -113,7 +114,6 @@ module _ (R : Reader TokenTree) where
       go true false f g = simp (f, g)
       go true true f g = simp (f, g) (call-shown call c)
 
-pub cursor-words : (b : List ℕ) (k : ℕ) (parts symbols : List ℕ) (call : CursorCall) (c : Cursor)
-    → callWords (cursorStep treeShape (treeReader b k parts symbols) call c) ≡ cursorStep wordShape (ownReader b k parts symbols) call c
-cursor-words b k parts symbols call c =
-    cursor-shown (treeReader b k parts symbols) call c ∙ ap (λ (R : Reader (List ℕ)). cursorStep wordShape R call c) (own-shown b k parts symbols)
+pub cursor-words : (b : List ℕ) (k : ℕ) (M : Mode) (call : CursorCall) (c : Cursor)
+    → callWords (cursorStep treeShape (treeReaderIn b k M) call c) ≡ cursorStep wordShape (reader b k (modeTables M)) call c
+cursor-words b k M call c = cursor-shown (treeReaderIn b k M) call c ∙ ap (λ (R : Reader (List ℕ)). cursorStep wordShape R call c) (mode-shown b k M)

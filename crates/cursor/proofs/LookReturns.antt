@@ -1,5 +1,5 @@
 -- One law for each return of the calls that look, with premises as the code's tests and calls give them.
-use Prim.Native.Nat.{ℕ, zero, suc, _+_, _<_}
+use Prim.Native.Nat.{ℕ, zero, suc, _+_, _/_, _<_}
 use mathlib.Core.Bool.{Bool, true, false, not}
 use mathlib.Core.Path.{_≡_, refl, sym, ap, _∙_, subst}
 use mathlib.Core.List.{List, [], _∷_}
@@ -7,42 +7,49 @@ use native.Mathlib.Omega.{arith}
 use native.Mathlib.Nat.{add-zero}
 use borrow.Author.Tests.{not-true, not-false, ltb-true}
 use lib.Dec.{ltb}
-use lib.ListN.{getD}
-use Rattle.format.specs.Reader.{Reply, got, bad, Answer, none, refused}
-use Rattle.format.specs.Cursor.{Cursor, tokenTree, peekTwoLeaves, within, treeHere, secondLeaf, firstLeaf, cursorCall, cursorStep}
+use lib.ListN.{length, getD}
+use Rattle.format.specs.Width.{partSize}
+use Rattle.format.specs.Tables.{Mode, ownLimits, ownMode}
+use Rattle.format.specs.Buffer.{ownReader}
+use Rattle.format.specs.Reader.{Reader, Reply, got, bad, Answer, none, refused}
+use Rattle.format.specs.Cursor.{Cursor, CursorCall, tokenTree, peekTwoLeaves, within, treeHere, secondLeaf, firstLeaf, cursorCall, cursorStep}
 use Rattle.format.proofs.Each.{and-left}
 use Rattle.tree.specs.declared.types.TokenTree.{TokenTree}
 use Rattle.tree.specs.declared.types.TokenTree.the-variants as trees
 use Rattle.tree.specs.declared.types.Leaf.{Leaf}
 use Rattle.tree.specs.declared.types.Subtree.{Subtree}
-use Rattle.decode.specs.Decode.{treeAnswer, decodedAt}
+use Rattle.tree.specs.Mode.{limitsOf, modeOf}
+use Rattle.tree.specs.declared.limits.Limits.{Limits}
+use Rattle.tree.proofs.OwnMode.{pairOf}
+use Rattle.decode.specs.Decode.{treeAnswer, readIn}
 use Rattle.decode.specs.declared.decode.TreeAt.{TreeAt}
 use Rattle.decode.specs.declared.decode.TreeRead.{TreeRead}
 use Rattle.decode.specs.declared.decode.TreeRead.the-variants as reads
 use Rattle.decode.proofs.DecodeUse.{decoded-got, decoded-refused}
-use Rattle.walk.specs.Source.{treeShape, treeReader, answerWords}
+use Rattle.walk.specs.Source.{treesSized, sizes, treeShape, treeReaderIn, treeReader, answerWords}
+use Rattle.walk.proofs.SizesReturns.{mode-sized, sizes-trees, sizes-whole, sizes-mode}
 use Rattle.walk.proofs.WalkWords.{reads-decoded}
 use Rattle.walk.proofs.WalkReturns.{leaf-flat, subtree-holds}
-use Rattle.cursor.specs.Open.{opened, cursorOf, cursorRow, inside}
+use Rattle.cursor.specs.Open.{opened, cursorOf, agreed, inside}
 use Rattle.cursor.specs.Plan.{answerOf}
 use Rattle.cursor.specs.Moves.{atOf}
-use Rattle.cursor.specs.Look.{Tells, Here, blankLeaf, noLeaves, peekOf, tidy, Peeks, Second, First}
+use Rattle.cursor.specs.Look.{Tells, TellsIn, Here, blankLeaf, noLeaves, peekOf, tidy, Peeks, PeeksIn, Second, First}
 use Rattle.cursor.specs.declared.state.At.{At}
 use Rattle.cursor.specs.declared.plan.Answer as plan
 use Rattle.cursor.specs.declared.plan.Answer.the-variants as answers
 use Rattle.cursor.specs.declared.look.TwoLeaves.{TwoLeaves}
 use Rattle.cursor.specs.declared.cursor.Cursor as value
 use Rattle.cursor.proofs.CursorWords.{cursor-words}
-use Rattle.cursor.proofs.PlanReturns.{row-stops, row-calls, plan-few}
+use Rattle.cursor.proofs.PlanReturns.{fit-stops, fit-calls, sizes-stop, plan-few}
 
 -- ---- what is read
 
-module _ (b parts symbols : List ℕ) (n p : ℕ) (r : TreeRead) (f : r ≡ treeAnswer (decodedAt b parts symbols n p)) where
-  read-bad : (i : ℕ) → r ≡ reads.Refused i → (k : ℕ) → treeReader b k parts symbols .read n p ≡ bad i
-  read-bad i g k = reads-decoded b k parts symbols n p ∙ decoded-refused (decodedAt b parts symbols n p) r f i g
+module _ (b : List ℕ) (M : Mode) (n p : ℕ) (r : TreeRead) (f : r ≡ treeAnswer (readIn b M n p)) where
+  read-bad : (i : ℕ) → r ≡ reads.Refused i → (k : ℕ) → treeReaderIn b k M .read n p ≡ bad i
+  read-bad i g k = reads-decoded b k M n p ∙ decoded-refused (readIn b M n p) r f i g
 
-  read-got : (y : TreeAt) → r ≡ reads.Got y → (k : ℕ) → treeReader b k parts symbols .read n p ≡ got (y .tree) (y .next) (y .children .0)
-  read-got y g k = reads-decoded b k parts symbols n p ∙ decoded-got (decodedAt b parts symbols n p) r f y g
+  read-got : (y : TreeAt) → r ≡ reads.Got y → (k : ℕ) → treeReaderIn b k M .read n p ≡ got (y .tree) (y .next) (y .children .0)
+  read-got y g k = reads-decoded b k M n p ∙ decoded-got (readIn b M n p) r f y g
 
 refused-is : (i n : ℕ) (a : plan.Answer) → a ≡ answers.Refused (record { number = i; tree = n }) → answerOf a ≡ refused i n
 unfolding answerOf
@@ -64,41 +71,13 @@ inside-below k n ns cs (suc d) i = ltb-true n k (and-left (ltb n k) (ltb n (getD
 
 -- ---- one tree
 
-module _ (b parts symbols : List ℕ) (c : At) (r : TreeRead) (f : r ≡ treeAnswer (decodedAt b parts symbols (c .number) (c .place))) where
-  pub here-refused : (i : ℕ) (a : plan.Answer) → r ≡ reads.Refused i → a ≡ answers.Refused (record { number = i; tree = c .number }) → Here b parts symbols c a
-  here-refused i a g q = record { step = λ k. refused-is i (c .number) a q ∙ sym (ap (treeHere treeShape (treeReader b k parts symbols) (c .number)) (read-bad b parts symbols (c .number) (c .place) r f i g k)) }
+module _ (b : List ℕ) (M : Mode) (c : At) (r : TreeRead) (f : r ≡ treeAnswer (readIn b M (c .number) (c .place))) where
+  pub here-refused : (i : ℕ) (a : plan.Answer) → r ≡ reads.Refused i → a ≡ answers.Refused (record { number = i; tree = c .number }) → Here b M c a
+  here-refused i a g q = record { step = λ k. refused-is i (c .number) a q ∙ sym (ap (treeHere treeShape (treeReaderIn b k M) (c .number)) (read-bad b M (c .number) (c .place) r f i g k)) }
 
-  pub here-got : (y : TreeAt) → r ≡ reads.Got y → Here b parts symbols c (answers.Tree (y .tree))
+  pub here-got : (y : TreeAt) → r ≡ reads.Got y → Here b M c (answers.Tree (y .tree))
   unfolding answerOf
-  here-got y g = record { step = λ k. sym (ap (treeHere treeShape (treeReader b k parts symbols) (c .number)) (read-got b parts symbols (c .number) (c .place) r f y g k)) }
-
-module _ (b parts symbols : List ℕ) (k : ℕ) (c : At) (ns cs ps : List ℕ) where
-  tells : (a : plan.Answer) → answerOf a ≡ cursorStep treeShape (treeReader b k parts symbols) tokenTree (cursorOf c ns cs ps) .0 → Tells b k parts symbols c ns cs ps a
-  tells a q = record { exact = q; words = ap answerWords q ∙ ap (λ x. x .0) (cursor-words b k parts symbols tokenTree (cursorOf c ns cs ps)) }
-
-  module _ (row : ℕ) (e : row ≡ cursorRow (treeReader b k parts symbols) (cursorOf c ns cs ps)) where
-    pub tells-row : (row ≡ 0 → ⊥) → (a : plan.Answer) → a ≡ answers.Refused (record { number = row; tree = 0 }) → Tells b k parts symbols c ns cs ps a
-    tells-row h a q = tells a (refused-is row 0 a q ∙ ap (λ x. x .0) (row-stops (treeReader b k parts symbols) (cursorOf c ns cs ps) row e tokenTree h))
-
-    module _ (h : row ≡ 0) (x : Bool) (f : x ≡ inside k (c .number + 0) ns cs (c .depth)) where
-      is-within : within (treeReader b k parts symbols .trees) (opened ns cs ps (c .depth)) (c .number) ≡ x
-      unfolding treeReader
-      is-within = within-inside k (c .number) ns cs ps (c .depth) ∙ ap (λ (n : ℕ). inside k n ns cs (c .depth)) (sym (add-zero (c .number))) ∙ sym f
-
-      told : cursorStep treeShape (treeReader b k parts symbols) tokenTree (cursorOf c ns cs ps) .0 ≡ cursorCall treeShape (treeReader b k parts symbols) tokenTree (cursorOf c ns cs ps) .0
-      told = ap (λ x. x .0) (row-calls (treeReader b k parts symbols) (cursorOf c ns cs ps) row e h tokenTree)
-
-      pub tells-none : not x ≡ true → Tells b k parts symbols c ns cs ps answers.None
-      tells-none g =
-          let z = is-within ∙ not-true x g in
-          tells answers.None (none-is ∙ sym (told ∙ simp z))
-
-      pub tells-here : not x ≡ false → (a : plan.Answer) → Here b parts symbols c a → Tells b k parts symbols c ns cs ps a
-      tells-here g a q =
-          let z = is-within ∙ not-false x g in
-          tells a (q .step k ∙ sym (told ∙ simp z))
-
-pub ruleset tells-cases = (plan-few, here-refused, here-got, tells-row, tells-none, tells-here)
+  here-got y g = record { step = λ k. sym (ap (treeHere treeShape (treeReaderIn b k M) (c .number)) (read-got b M (c .number) (c .place) r f y g k)) }
 
 -- ---- two leaves
 
@@ -115,82 +94,144 @@ leaf-is y l e = ap (treeShape .isSub) e ∙ leaf-flat l
 subtree-is : (y : TreeAt) (p : Subtree) → y .tree ≡ trees.Subtree p → treeShape .isSub (y .tree) ≡ true
 subtree-is y p e = ap (treeShape .isSub) e ∙ subtree-holds p .0
 
-module _ (b parts symbols : List ℕ) (n p : ℕ) (near : Leaf) (r : TreeRead) (f : r ≡ treeAnswer (decodedAt b parts symbols (n + 1) p)) where
-  second-from : (t : TwoLeaves) (z : Reply TokenTree) → ((k : ℕ) → treeReader b k parts symbols .read (n + 1) p ≡ z)
-      → ((k : ℕ) → peekOf t ≡ secondLeaf treeShape (treeReader b k parts symbols) n (trees.Leaf near) z) → t ≡ tidy t → Second b parts symbols n p near t
-  second-from t z g q w = record { step = λ k. q k ∙ sym (ap (secondLeaf treeShape (treeReader b k parts symbols) n (trees.Leaf near)) (g k)); whole = w }
+module _ (b : List ℕ) (M : Mode) (n p : ℕ) (near : Leaf) (r : TreeRead) (f : r ≡ treeAnswer (readIn b M (n + 1) p)) where
+  second-from : (t : TwoLeaves) (z : Reply TokenTree) → ((k : ℕ) → treeReaderIn b k M .read (n + 1) p ≡ z)
+      → ((k : ℕ) → peekOf t ≡ secondLeaf treeShape (treeReaderIn b k M) n (trees.Leaf near) z) → t ≡ tidy t → Second b M n p near t
+  second-from t z g q w = record { step = λ k. q k ∙ sym (ap (secondLeaf treeShape (treeReaderIn b k M) n (trees.Leaf near)) (g k)); whole = w }
 
-  pub second-refused : (i : ℕ) (a : plan.Answer) (t : TwoLeaves) → r ≡ reads.Refused i → a ≡ answers.Refused (record { number = i; tree = n + 1 }) → t ≡ noLeaves a → Second b parts symbols n p near t
-  second-refused i a t g q h = let w = without a t h in second-from t (bad i) (read-bad b parts symbols (n + 1) p r f i g) (λ k. w .0 ∙ refused-is i (n + 1) a q) (w .1)
+  pub second-refused : (i : ℕ) (a : plan.Answer) (t : TwoLeaves) → r ≡ reads.Refused i → a ≡ answers.Refused (record { number = i; tree = n + 1 }) → t ≡ noLeaves a → Second b M n p near t
+  second-refused i a t g q h = let w = without a t h in second-from t (bad i) (read-bad b M (n + 1) p r f i g) (λ k. w .0 ∙ refused-is i (n + 1) a q) (w .1)
 
   module _ (y : TreeAt) (g : r ≡ reads.Got y) where
-    pub second-subtree : (s : Subtree) (t : TwoLeaves) → y .tree ≡ trees.Subtree s → t ≡ noLeaves answers.None → Second b parts symbols n p near t
+    pub second-subtree : (s : Subtree) (t : TwoLeaves) → y .tree ≡ trees.Subtree s → t ≡ noLeaves answers.None → Second b M n p near t
     second-subtree s t e h =
         let w = without answers.None t h in
         let d = subtree-is y s e in
-        second-from t (got (y .tree) (y .next) (y .children .0)) (read-got b parts symbols (n + 1) p r f y g) (λ k. w .0 ∙ none-is ∙ simp d) (w .1)
+        second-from t (got (y .tree) (y .next) (y .children .0)) (read-got b M (n + 1) p r f y g) (λ k. w .0 ∙ none-is ∙ simp d) (w .1)
 
-    pub second-found : (far : Leaf) → y .tree ≡ trees.Leaf far → Second b parts symbols n p near (record { found = true; leaves = record { leaf = near } ∷ record { leaf = far } ∷ []; otherwise = answers.None })
+    pub second-found : (far : Leaf) → y .tree ≡ trees.Leaf far → Second b M n p near (record { found = true; leaves = record { leaf = near } ∷ record { leaf = far } ∷ []; otherwise = answers.None })
     unfolding peekOf tidy
     second-found far e =
         let d = leaf-is y far e in
         second-from (record { found = true; leaves = record { leaf = near } ∷ record { leaf = far } ∷ []; otherwise = answers.None })
-        (got (y .tree) (y .next) (y .children .0)) (read-got b parts symbols (n + 1) p r f y g) (λ k. rw (← e) (simp d)) refl
+        (got (y .tree) (y .next) (y .children .0)) (read-got b M (n + 1) p r f y g) (λ k. rw (← e) (simp d)) refl
 
-module _ (b parts symbols : List ℕ) (c : At) (r : TreeRead) (f : r ≡ treeAnswer (decodedAt b parts symbols (c .number) (c .place))) where
-  first-from : (t : TwoLeaves) (z : Reply TokenTree) → ((k : ℕ) → treeReader b k parts symbols .read (c .number) (c .place) ≡ z)
-      → ((k : ℕ) → peekOf t ≡ firstLeaf treeShape (treeReader b k parts symbols) (c .number) z) → t ≡ tidy t → First b parts symbols c t
-  first-from t z g q w = record { step = λ k. q k ∙ sym (ap (firstLeaf treeShape (treeReader b k parts symbols) (c .number)) (g k)); whole = w }
+module _ (b : List ℕ) (M : Mode) (c : At) (r : TreeRead) (f : r ≡ treeAnswer (readIn b M (c .number) (c .place))) where
+  first-from : (t : TwoLeaves) (z : Reply TokenTree) → ((k : ℕ) → treeReaderIn b k M .read (c .number) (c .place) ≡ z)
+      → ((k : ℕ) → peekOf t ≡ firstLeaf treeShape (treeReaderIn b k M) (c .number) z) → t ≡ tidy t → First b M c t
+  first-from t z g q w = record { step = λ k. q k ∙ sym (ap (firstLeaf treeShape (treeReaderIn b k M) (c .number)) (g k)); whole = w }
 
-  pub first-refused : (i : ℕ) (a : plan.Answer) (t : TwoLeaves) → r ≡ reads.Refused i → a ≡ answers.Refused (record { number = i; tree = c .number }) → t ≡ noLeaves a → First b parts symbols c t
-  first-refused i a t g q h = let w = without a t h in first-from t (bad i) (read-bad b parts symbols (c .number) (c .place) r f i g) (λ k. w .0 ∙ refused-is i (c .number) a q) (w .1)
+  pub first-refused : (i : ℕ) (a : plan.Answer) (t : TwoLeaves) → r ≡ reads.Refused i → a ≡ answers.Refused (record { number = i; tree = c .number }) → t ≡ noLeaves a → First b M c t
+  first-refused i a t g q h = let w = without a t h in first-from t (bad i) (read-bad b M (c .number) (c .place) r f i g) (λ k. w .0 ∙ refused-is i (c .number) a q) (w .1)
 
   module _ (y : TreeAt) (g : r ≡ reads.Got y) where
-    pub first-subtree : (s : Subtree) (t : TwoLeaves) → y .tree ≡ trees.Subtree s → t ≡ noLeaves answers.None → First b parts symbols c t
+    pub first-subtree : (s : Subtree) (t : TwoLeaves) → y .tree ≡ trees.Subtree s → t ≡ noLeaves answers.None → First b M c t
     first-subtree s t e h =
         let w = without answers.None t h in
         let d = subtree-is y s e in
-        first-from t (got (y .tree) (y .next) (y .children .0)) (read-got b parts symbols (c .number) (c .place) r f y g) (λ k. w .0 ∙ none-is ∙ simp d) (w .1)
+        first-from t (got (y .tree) (y .next) (y .children .0)) (read-got b M (c .number) (c .place) r f y g) (λ k. w .0 ∙ none-is ∙ simp d) (w .1)
 
-    pub first-leaf : (near : Leaf) (t : TwoLeaves) → y .tree ≡ trees.Leaf near → Second b parts symbols (c .number) (y .next) near t → First b parts symbols c t
+    pub first-leaf : (near : Leaf) (t : TwoLeaves) → y .tree ≡ trees.Leaf near → Second b M (c .number) (y .next) near t → First b M c t
     first-leaf near t e s =
         let d = leaf-is y near e in
-        first-from t (got (y .tree) (y .next) (y .children .0)) (read-got b parts symbols (c .number) (c .place) r f y g) (λ k. s .step k ∙ rw (← e) (simp d)) (s .whole)
+        first-from t (got (y .tree) (y .next) (y .children .0)) (read-got b M (c .number) (c .place) r f y g) (λ k. s .step k ∙ rw (← e) (simp d)) (s .whole)
+
+-- a call behind row 10
+module _ (b parts pair symbols : List ℕ) (N : Limits) (k : ℕ) (s : treesSized k ≡ true) (c : At) (ns cs ps : List ℕ)
+    (z : Bool) (e : z ≡ agreed k (length b) (cursorOf c ns cs ps)) where
+  abbrev own : Mode
+  own = modeOf N parts pair symbols
+
+  abbrev R : Reader TokenTree
+  R = treeReaderIn b k own
+
+  stops : (call : CursorCall) → not z ≡ true → refused 10 0 ≡ cursorStep treeShape R call (cursorOf c ns cs ps) .0
+  unfolding treeReaderIn
+  stops call h = ap (λ x. x .0) (fit-stops R (mode-sized b k N parts pair symbols s) (cursorOf c ns cs ps) call (sym e ∙ not-true z h))
+
+  calls : (call : CursorCall) → not z ≡ false → cursorStep treeShape R call (cursorOf c ns cs ps) .0 ≡ cursorCall treeShape R call (cursorOf c ns cs ps) .0
+  unfolding treeReaderIn
+  calls call h = ap (λ x. x .0) (fit-calls R (mode-sized b k N parts pair symbols s) (cursorOf c ns cs ps) call (sym e ∙ not-false z h))
+
+  -- ---- one tree
+
+  pub tells-10 : not z ≡ true → (a : plan.Answer) → a ≡ answers.Refused (record { number = 10; tree = 0 }) → TellsIn b k own c ns cs ps a
+  tells-10 h a q = record { exact = refused-is 10 0 a q ∙ stops tokenTree h }
+
+  module _ (h : not z ≡ false) (x : Bool) (f : x ≡ inside k (c .number + 0) ns cs (c .depth)) where
+    is-within : within (R .trees) (opened ns cs ps (c .depth)) (c .number) ≡ x
+    unfolding treeReaderIn
+    is-within = within-inside k (c .number) ns cs ps (c .depth) ∙ ap (λ (n : ℕ). inside k n ns cs (c .depth)) (sym (add-zero (c .number))) ∙ sym f
+
+    pub tells-none : not x ≡ true → TellsIn b k own c ns cs ps answers.None
+    tells-none g =
+        let w = is-within ∙ not-true x g in
+        record { exact = none-is ∙ sym (calls tokenTree h ∙ simp w) }
+
+    pub tells-here : not x ≡ false → (a : plan.Answer) → Here b own c a → TellsIn b k own c ns cs ps a
+    tells-here g a q =
+        let w = is-within ∙ not-false x g in
+        record { exact = q .step k ∙ sym (calls tokenTree h ∙ simp w) }
+
+  -- ---- two leaves
+
+  pub peeks-10 : not z ≡ true → (a : plan.Answer) (t : TwoLeaves) → a ≡ answers.Refused (record { number = 10; tree = 0 }) → t ≡ noLeaves a → PeeksIn b k own c ns cs ps t
+  peeks-10 h a t q g =
+      let w = without a t g in
+      record { exact = w .0 ∙ refused-is 10 0 a q ∙ stops peekTwoLeaves h; whole = w .1 }
+
+  module _ (h : not z ≡ false) (x : Bool) (f : x ≡ inside k (c .number + 1) ns cs (c .depth)) where
+    both-within : within (R .trees) (opened ns cs ps (c .depth)) (c .number + 1) ≡ x
+    unfolding treeReaderIn
+    both-within = within-inside k (c .number + 1) ns cs ps (c .depth) ∙ sym f
+
+    pub peeks-none : not x ≡ true → (t : TwoLeaves) → t ≡ noLeaves answers.None → PeeksIn b k own c ns cs ps t
+    peeks-none g t q =
+        let w = without answers.None t q in
+        let v = both-within ∙ not-true x g in
+        record { exact = w .0 ∙ none-is ∙ sym (calls peekTwoLeaves h ∙ simp v); whole = w .1 }
+
+    pub peeks-first : not x ≡ false → (t : TwoLeaves) → First b own c t → PeeksIn b k own c ns cs ps t
+    peeks-first g t q =
+        let v = both-within ∙ not-false x g in
+        record { exact = q .step k ∙ sym (calls peekTwoLeaves h ∙ simp v); whole = q .whole }
+
+module _ (k : ℕ) (c : At) (ns cs : List ℕ) (x : Bool) (f : x ≡ inside k (c .number + 1) ns cs (c .depth)) where
+  pub peeks-room : not x ≡ false → k < 4294967296 → c .number + 1 < 4294967296
+  peeks-room g l = let i = inside-below k (c .number + 1) ns cs (c .depth) (sym f ∙ not-false x g) in omega arith
+
+pub ruleset tells-cases = (plan-few, here-refused, here-got, tells-10, tells-none, tells-here)
+
+pub ruleset peeks-cases = (plan-few, no-leaves-is, second-refused, second-subtree, second-found, first-refused, first-subtree, first-leaf, peeks-10, peeks-none, peeks-room, peeks-first)
+
+-- ---- document 01's mode, behind row 1
 
 module _ (b parts symbols : List ℕ) (k : ℕ) (c : At) (ns cs ps : List ℕ) where
+  tells : (a : plan.Answer) → answerOf a ≡ cursorStep treeShape (treeReader b k parts symbols) tokenTree (cursorOf c ns cs ps) .0 → Tells b k parts symbols c ns cs ps a
+  unfolding ownReader
+  tells a q = record { exact = q; words = ap answerWords q ∙ ap (λ x. x .0) (cursor-words b k (ownMode parts symbols) tokenTree (cursorOf c ns cs ps)) }
+
   peeks : (t : TwoLeaves) → peekOf t ≡ cursorStep treeShape (treeReader b k parts symbols) peekTwoLeaves (cursorOf c ns cs ps) .0 → t ≡ tidy t → Peeks b k parts symbols c ns cs ps t
-  peeks t q w = record { exact = q; words = ap answerWords q ∙ ap (λ x. x .0) (cursor-words b k parts symbols peekTwoLeaves (cursorOf c ns cs ps)); whole = w }
+  unfolding ownReader
+  peeks t q w = record { exact = q; words = ap answerWords q ∙ ap (λ x. x .0) (cursor-words b k (ownMode parts symbols) peekTwoLeaves (cursorOf c ns cs ps)); whole = w }
 
-  module _ (row : ℕ) (e : row ≡ cursorRow (treeReader b k parts symbols) (cursorOf c ns cs ps)) where
-    pub peeks-row : (row ≡ 0 → ⊥) → (a : plan.Answer) (t : TwoLeaves) → a ≡ answers.Refused (record { number = row; tree = 0 }) → t ≡ noLeaves a → Peeks b k parts symbols c ns cs ps t
-    peeks-row h a t q g =
+  module _ (s : Bool) (e : s ≡ sizes k parts symbols) where
+    pub tells-1 : not s ≡ true → (a : plan.Answer) → a ≡ answers.Refused (record { number = 1; tree = 0 }) → Tells b k parts symbols c ns cs ps a
+    tells-1 h a q = tells a (refused-is 1 0 a q ∙ ap (λ x. x .0) (sizes-stop b k parts symbols s e h tokenTree (cursorOf c ns cs ps)))
+
+    pub peeks-1 : not s ≡ true → (a : plan.Answer) (t : TwoLeaves) → a ≡ answers.Refused (record { number = 1; tree = 0 }) → t ≡ noLeaves a → Peeks b k parts symbols c ns cs ps t
+    peeks-1 h a t q g =
         let w = without a t g in
-        peeks t (w .0 ∙ refused-is row 0 a q ∙ ap (λ x. x .0) (row-stops (treeReader b k parts symbols) (cursorOf c ns cs ps) row e peekTwoLeaves h)) (w .1)
+        peeks t (w .0 ∙ refused-is 1 0 a q ∙ ap (λ x. x .0) (sizes-stop b k parts symbols s e h peekTwoLeaves (cursorOf c ns cs ps))) (w .1)
 
-    module _ (h : row ≡ 0) (x : Bool) (f : x ≡ inside k (c .number + 1) ns cs (c .depth)) where
-      both-within : within (treeReader b k parts symbols .trees) (opened ns cs ps (c .depth)) (c .number + 1) ≡ x
-      unfolding treeReader
-      both-within = within-inside k (c .number + 1) ns cs ps (c .depth) ∙ sym f
+    module _ (h : not s ≡ false) (N : Limits) (d : limitsOf N ≡ ownLimits (length parts / partSize) (length symbols)) where
+      pub tells-front : (a : plan.Answer) → TellsIn b k (modeOf N parts (pairOf N parts) symbols) c ns cs ps a → Tells b k parts symbols c ns cs ps a
+      tells-front a q = tells a (subst (λ (M : Mode). TellsIn b k M c ns cs ps a) (sizes-mode k parts symbols s e h N d) q .exact)
 
-      peeked : cursorStep treeShape (treeReader b k parts symbols) peekTwoLeaves (cursorOf c ns cs ps) .0 ≡ cursorCall treeShape (treeReader b k parts symbols) peekTwoLeaves (cursorOf c ns cs ps) .0
-      peeked = ap (λ x. x .0) (row-calls (treeReader b k parts symbols) (cursorOf c ns cs ps) row e h peekTwoLeaves)
+      pub peeks-front : (t : TwoLeaves) → PeeksIn b k (modeOf N parts (pairOf N parts) symbols) c ns cs ps t → Peeks b k parts symbols c ns cs ps t
+      peeks-front t q = peeks t (subst (λ (M : Mode). PeeksIn b k M c ns cs ps t) (sizes-mode k parts symbols s e h N d) q .exact) (q .whole)
 
-      pub peeks-none : not x ≡ true → (t : TwoLeaves) → t ≡ noLeaves answers.None → Peeks b k parts symbols c ns cs ps t
-      peeks-none g t q =
-          let w = without answers.None t q in
-          let z = both-within ∙ not-true x g in
-          peeks t (w .0 ∙ none-is ∙ sym (peeked ∙ simp z)) (w .1)
-
-      module _ (g : not x ≡ false) where
-        pub peeks-room : k < 4294967296 → c .number + 1 < 4294967296
-        peeks-room l = let i = inside-below k (c .number + 1) ns cs (c .depth) (sym f ∙ not-false x g) in omega arith
-
-        pub peeks-first : (t : TwoLeaves) → First b parts symbols c t → Peeks b k parts symbols c ns cs ps t
-        peeks-first t q =
-            let z = both-within ∙ not-false x g in
-            peeks t (q .step k ∙ sym (peeked ∙ simp z)) (q .whole)
-
-pub ruleset peeks-cases = (plan-few, no-leaves-is, second-refused, second-subtree, second-found, first-refused, first-subtree, first-leaf, peeks-row, peeks-none, peeks-room, peeks-first)
+pub ruleset look-fronts = (sizes-trees, sizes-whole, no-leaves-is, tells-1, peeks-1, tells-front, peeks-front)
 
 -- ---- a cursor by value, whose state was handed on
 

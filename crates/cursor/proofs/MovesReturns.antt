@@ -1,6 +1,6 @@
 -- One law for each return of the calls that move the cursor, with premises as the code's tests and calls give them.
-use Prim.Native.Nat.{ℕ, zero, suc, _+_, _-_, _<_, _≤_}
-use mathlib.Core.Bool.{true, false}
+use Prim.Native.Nat.{ℕ, zero, suc, _+_, _-_, _/_, _<_, _≤_}
+use mathlib.Core.Bool.{Bool, true, false, not}
 use mathlib.Core.Path.{_≡_, refl, sym, ap, _∙_, subst}
 use mathlib.Core.List.{List, [], _∷_}
 use native.Mathlib.Omega.{arith}
@@ -12,19 +12,27 @@ use native.Mathlib.Numerals.{add-one}
 use mathlib.Core.Logic.{_≢_}
 use Rattle.format.specs.Cursor as calls
 use Rattle.format.specs.Cursor.{Open, CursorCall, cursorStep}
-use Rattle.format.specs.Buffer.{wordShape, ownReader}
+use Rattle.format.specs.Width.{partSize}
+use Rattle.format.specs.Tables.{Mode, modeTables, ownLimits, ownMode}
+use Rattle.format.specs.Buffer.{wordShape, reader, ownReader}
+use Rattle.tree.specs.Mode.{limitsOf, modeOf}
+use Rattle.tree.specs.declared.limits.Limits.{Limits}
+use Rattle.tree.proofs.OwnMode.{pairOf}
+use Rattle.walk.specs.Source.{sizes}
+use Rattle.walk.proofs.SizesReturns.{sizes-trees, sizes-whole, sizes-mode}
 use Rattle.cursor.specs.Open.{opened, cursorOf}
-use Rattle.cursor.specs.Plan.{changed, planOf, May, Planned}
-use Rattle.cursor.specs.Moves.{atOf, written, stateOf, Arrays, Moves, moved, stored, countIn, Applied}
+use Rattle.cursor.specs.Plan.{answerOf, changed, May, Planned}
+use Rattle.cursor.specs.Moves.{atOf, written, stateOf, Arrays, Moves, MovesIn, moved, stored, countIn, Applied}
 use Rattle.cursor.specs.declared.state.At.{At}
 use Rattle.cursor.specs.declared.plan.Answer.{Answer}
+use Rattle.cursor.specs.declared.plan.Answer.the-variants as answers
 use Rattle.cursor.specs.declared.plan.Change.{Change}
 use Rattle.cursor.specs.declared.plan.Change.the-variants as changes
 use Rattle.cursor.specs.declared.plan.Opening.{Opening}
-use Rattle.cursor.specs.declared.plan.Plan.{Plan}
 use Rattle.cursor.specs.declared.cursor.Cursor.{Cursor}
 use Rattle.cursor.proofs.OpenReturns.{opened-length}
 use Rattle.cursor.proofs.CursorWords.{callWords, cursor-words}
+use Rattle.cursor.proofs.PlanReturns.{sizes-stop}
 
 -- ---- a change carried out
 
@@ -139,27 +147,77 @@ next-is c ns cs ps (changes.Open o) m a =
     rw e
 next-is c ns cs ps changes.Shut m a = rw (opened-drop ns cs ps (c .depth))
 
-module _ (b parts symbols : List ℕ) (k : ℕ) (call : CursorCall) (c : At) (ns cs ps : List ℕ) (p : Plan) (e : Planned b k parts symbols call c ns cs ps p) where
-  pub moves-may : May c (p .change)
-  moves-may = e .may
+-- ---- what a plan, carried out, leaves: the definition's cursor in its arrays
 
-  pub moves-is : (c′ : At) (ns′ cs′ ps′ : List ℕ) → Applied c (p .change) ns cs ps c′ ns′ cs′ ps′ → Moves b k parts symbols call c ns cs ps (p .answer) c′ ns′ cs′ ps′
-  moves-is c′ ns′ cs′ ps′ h =
-      let w : callWords (planOf p (cursorOf c ns cs ps)) ≡ cursorStep wordShape (ownReader b k parts symbols) call (cursorOf c ns cs ps) = ap callWords (e .step) ∙ cursor-words b k parts symbols call (cursorOf c ns cs ps) in
-      let s : changed (p .change) (cursorOf c ns cs ps) ≡ cursorStep wordShape (ownReader b k parts symbols) call (cursorOf c ns cs ps) .1 = ap (λ x. x .1) w in
+module _ (b : List ℕ) (M : Mode) (k : ℕ) (call : CursorCall) (c : At) (ns cs ps : List ℕ) (answer : Answer) (c′ : At) (ns′ cs′ ps′ : List ℕ)
+    (m : MovesIn b k M call c ns cs ps answer c′ ns′ cs′ ps′) where
+  abbrev then : calls.Cursor
+  then = cursorStep wordShape (reader b k (modeTables M)) call (cursorOf c ns cs ps) .1
+
+  moves-words : callWords (answerOf answer, changed (m .change) (cursorOf c ns cs ps)) ≡ cursorStep wordShape (reader b k (modeTables M)) call (cursorOf c ns cs ps)
+  moves-words = ap callWords (m .planned .step) ∙ cursor-words b k M call (cursorOf c ns cs ps)
+
+  then-is : changed (m .change) (cursorOf c ns cs ps) ≡ then
+  then-is = ap (λ x. x .1) moves-words
+
+  moves-state : c′ ≡ stateOf then
+  moves-state = m .applied .state ∙ state-is c ns cs ps (m .change) ∙ ap stateOf then-is
+
+  moves-numbers : ns′ ≡ written (λ o. o .number) ns (c .depth) (then .opened)
+  moves-numbers =
+      m .applied .numbers ∙ array-is c ns cs ps (λ o. o .number) ns (m .change)
+      ∙ ap (λ (x : calls.Cursor). written (λ o. o .number) ns (c .depth) (x .opened)) then-is
+
+  moves-counts : cs′ ≡ written (λ o. o .count) cs (c .depth) (then .opened)
+  moves-counts =
+      m .applied .counts ∙ array-is c ns cs ps (λ o. o .count) cs (m .change)
+      ∙ ap (λ (x : calls.Cursor). written (λ o. o .count) cs (c .depth) (x .opened)) then-is
+
+  moves-places : ps′ ≡ written (λ o. o .place) ps (c .depth) (then .opened)
+  moves-places =
+      m .applied .places ∙ array-is c ns cs ps (λ o. o .place) ps (m .change)
+      ∙ ap (λ (x : calls.Cursor). written (λ o. o .place) ps (c .depth) (x .opened)) then-is
+
+  moves-next : Arrays ns cs ps → cursorOf c′ ns′ cs′ ps′ ≡ then
+  moves-next full =
+      let h = m .applied in
+      (λ i. cursorOf (h .state i) (h .numbers i) (h .counts i) (h .places i)) ∙ next-is c ns cs ps (m .change) (m .planned .may) full ∙ then-is
+
+-- ---- document 01's mode, behind row 1
+
+module _ (b parts symbols : List ℕ) (k : ℕ) (call : CursorCall) (c : At) (ns cs ps : List ℕ) (answer : Answer) (c′ : At) (ns′ cs′ ps′ : List ℕ) where
+  moves : MovesIn b k (ownMode parts symbols) call c ns cs ps answer c′ ns′ cs′ ps′ → Moves b k parts symbols call c ns cs ps answer c′ ns′ cs′ ps′
+  unfolding ownReader
+  moves m =
+      let M : Mode = ownMode parts symbols in
       record {
-        exact = ap (λ x. x .0) (e .step);
-        words = ap (λ x. x .0) w;
-        state = h .state ∙ state-is c ns cs ps (p .change) ∙ ap stateOf s;
-        numbers = h .numbers ∙ array-is c ns cs ps (λ o. o .number) ns (p .change) ∙ ap (λ (x : calls.Cursor). written (λ o. o .number) ns (c .depth) (x .opened)) s;
-        counts = h .counts ∙ array-is c ns cs ps (λ o. o .count) cs (p .change) ∙ ap (λ (x : calls.Cursor). written (λ o. o .count) cs (c .depth) (x .opened)) s;
-        places = h .places ∙ array-is c ns cs ps (λ o. o .place) ps (p .change) ∙ ap (λ (x : calls.Cursor). written (λ o. o .place) ps (c .depth) (x .opened)) s;
-        next = λ full.
-            (λ i. cursorOf (h .state i) (h .numbers i) (h .counts i) (h .places i))
-            ∙ next-is c ns cs ps (p .change) (e .may) full ∙ s;
+        exact = ap (λ x. x .0) (m .planned .step);
+        words = ap (λ x. x .0) (moves-words b M k call c ns cs ps answer c′ ns′ cs′ ps′ m);
+        state = moves-state b M k call c ns cs ps answer c′ ns′ cs′ ps′ m;
+        numbers = moves-numbers b M k call c ns cs ps answer c′ ns′ cs′ ps′ m;
+        counts = moves-counts b M k call c ns cs ps answer c′ ns′ cs′ ps′ m;
+        places = moves-places b M k call c ns cs ps answer c′ ns′ cs′ ps′ m;
+        next = moves-next b M k call c ns cs ps answer c′ ns′ cs′ ps′ m;
       }
 
-pub ruleset moves-cases = (moves-may, moves-is)
+  pub moves-front : (s : Bool) → s ≡ sizes k parts symbols → not s ≡ false → (N : Limits) → limitsOf N ≡ ownLimits (length parts / partSize) (length symbols)
+      → MovesIn b k (modeOf N parts (pairOf N parts) symbols) call c ns cs ps answer c′ ns′ cs′ ps′ → Moves b k parts symbols call c ns cs ps answer c′ ns′ cs′ ps′
+  moves-front s e h N d m = moves (subst (λ (M : Mode). MovesIn b k M call c ns cs ps answer c′ ns′ cs′ ps′) (sizes-mode k parts symbols s e h N d) m)
+
+-- row 1: nothing moves
+pub moves-1 : (b parts symbols : List ℕ) (k : ℕ) (call : CursorCall) (c : At) (ns cs ps : List ℕ) (s : Bool) → s ≡ sizes k parts symbols → not s ≡ true
+    → (answer : Answer) (c′ : At) → answer ≡ answers.Refused (record { number = 1; tree = 0 }) → c′ ≡ c → Moves b k parts symbols call c ns cs ps answer c′ ns cs ps
+unfolding answerOf changed May moved stored countIn
+moves-1 b parts symbols k call c ns cs ps s e h answer c′ q w =
+    rw (q, w)
+    (moves b parts symbols k call c ns cs ps (answers.Refused (record { number = 1; tree = 0 })) c ns cs ps
+    (record {
+      change = changes.Stay;
+      planned = record { step = sizes-stop b k parts symbols s e h call (cursorOf c ns cs ps); may = tt };
+      applied = record { state = refl; numbers = refl; counts = refl; places = refl };
+    }))
+
+pub ruleset move-fronts = (sizes-trees, sizes-whole, moves-front, moves-1)
 
 -- a cursor by value, whose state was handed on
 

@@ -8,8 +8,7 @@ use borrow.Author.Tests.{le-leb, lt-leb, lt-ltb, le-ltb, eq-eqb, ne-eqb, not-tru
 use lib.Dec.{leb, ltb, eqb}
 use lib.ListN.{length, getD}
 use Rattle.format.specs.Cursor.{Open, after, nestedIn}
-use Rattle.walk.specs.Source.{sizes, treeReader}
-use Rattle.cursor.specs.Open.{opened, cursorOf, cursorRow, closes, inside}
+use Rattle.cursor.specs.Open.{opened, cursorOf, agreed, closes, inside}
 use Rattle.cursor.specs.declared.state.At.{At}
 
 pub opened-length : (ns cs ps : List ℕ) (d : ℕ) → length (opened ns cs ps d) ≡ d
@@ -128,42 +127,29 @@ module _ (k m n : ℕ) (ns cs : List ℕ) (d x y z : ℕ) (f : x ≡ k) (g : y �
 
 pub ruleset last-cases = (closes-none, closes-not, closes-here, inside-out, inside-none, inside-past, inside-here)
 
--- ---- rows 1 and 10
+-- ---- row 10
 
-module _ (b parts symbols : List ℕ) (k : ℕ) (c : At) (ns cs ps : List ℕ) (s : Bool) (e : s ≡ sizes k parts symbols) where
-  pub row-sizes : not s ≡ true → 1 ≡ cursorRow (treeReader b k parts symbols) (cursorOf c ns cs ps)
-  unfolding cursorRow treeReader
-  row-sizes h = let f : sizes k parts symbols ≡ false = sym e ∙ not-true s h in simp f
+module _ (k bytes : ℕ) (c : At) (ns cs ps : List ℕ) where
+  pub agrees-number : k < c .number → false ≡ agreed k bytes (cursorOf c ns cs ps)
+  agrees-number h = simp (lt-leb _ _ h)
 
-  module _ (h₁ : not s ≡ false) where
-    is-sized : sizes k parts symbols ≡ true
-    is-sized = sym e ∙ not-false s h₁
+  module _ (h₁ : c .number ≤ k) where
+    pub agrees-place : bytes < c .place → false ≡ agreed k bytes (cursorOf c ns cs ps)
+    agrees-place h = simp (le-leb _ _ h₁, lt-leb _ _ h)
 
-    pub row-number : k < c .number → 10 ≡ cursorRow (treeReader b k parts symbols) (cursorOf c ns cs ps)
-    unfolding cursorRow treeReader
-    row-number h = simp (is-sized, lt-leb _ _ h)
+    module _ (h₂ : c .place ≤ bytes) where
+      pub agrees-many : 256 < c .depth → false ≡ agreed k bytes (cursorOf c ns cs ps)
+      agrees-many h = simp (le-leb _ _ h₁, le-leb _ _ h₂, opened-length ns cs ps (c .depth), lt-leb _ _ h)
 
-    module _ (h₂ : c .number ≤ k) where
-      pub row-place : length b < c .place → 10 ≡ cursorRow (treeReader b k parts symbols) (cursorOf c ns cs ps)
-      unfolding cursorRow treeReader
-      row-place h = simp (is-sized, le-leb _ _ h₂, lt-leb _ _ h)
+      module _ (h₃ : c .depth ≤ 256) (t : Bool) (f : t ≡ nestedIn (c .number) (c .place) (c .number) (opened ns cs ps (c .depth))) where
+        pub agrees-nested : not t ≡ true → false ≡ agreed k bytes (cursorOf c ns cs ps)
+        agrees-nested h =
+            let g = sym f ∙ not-true t h in
+            simp (le-leb _ _ h₁, le-leb _ _ h₂, opened-length ns cs ps (c .depth), le-leb _ _ h₃, g)
 
-      module _ (h₃ : c .place ≤ length b) where
-        pub row-many : 256 < c .depth → 10 ≡ cursorRow (treeReader b k parts symbols) (cursorOf c ns cs ps)
-        unfolding cursorRow treeReader
-        row-many h = simp (is-sized, le-leb _ _ h₂, le-leb _ _ h₃, opened-length ns cs ps (c .depth), lt-leb _ _ h)
+        pub agrees-all : not t ≡ false → true ≡ agreed k bytes (cursorOf c ns cs ps)
+        agrees-all h =
+            let g = sym f ∙ not-false t h in
+            simp (le-leb _ _ h₁, le-leb _ _ h₂, opened-length ns cs ps (c .depth), le-leb _ _ h₃, g)
 
-        module _ (h₄ : c .depth ≤ 256) (t : Bool) (f : t ≡ nestedIn (c .number) (c .place) (c .number) (opened ns cs ps (c .depth))) where
-          pub row-nested : not t ≡ true → 10 ≡ cursorRow (treeReader b k parts symbols) (cursorOf c ns cs ps)
-          unfolding cursorRow treeReader
-          row-nested h =
-              let g = sym f ∙ not-true t h in
-              simp (is-sized, le-leb _ _ h₂, le-leb _ _ h₃, opened-length ns cs ps (c .depth), le-leb _ _ h₄, g)
-
-          pub row-none : not t ≡ false → 0 ≡ cursorRow (treeReader b k parts symbols) (cursorOf c ns cs ps)
-          unfolding cursorRow treeReader
-          row-none h =
-              let g = sym f ∙ not-false t h in
-              simp (is-sized, le-leb _ _ h₂, le-leb _ _ h₃, opened-length ns cs ps (c .depth), le-leb _ _ h₄, g)
-
-pub ruleset row-cases = (row-sizes, row-number, row-place, row-many, row-nested, row-none)
+pub ruleset agrees-cases = (agrees-number, agrees-place, agrees-many, agrees-nested, agrees-all)

@@ -1,5 +1,5 @@
 -- One law for each return of the parts of a call, with premises as the code's tests and calls give them.
-use Prim.Native.Nat.{ℕ, zero, suc, _+_, _-_, _/_, _<_, _≤_}
+use Prim.Native.Nat.{ℕ, zero, suc, _+_, _-_, _<_, _≤_}
 use mathlib.Core.Bool.{Bool, true, false, not, _&&_}
 use mathlib.Core.Path.{_≡_, refl, sym, ap, _∙_, subst}
 use mathlib.Core.List.{List, [], _∷_}
@@ -10,7 +10,7 @@ use lib.ListN.{length, getD, drop}
 use Rattle.format.specs.Reader.{Reader, Reply, got, bad, refused}
 use Rattle.format.specs.Cursor.{Open, Cursor, CursorCall, bump, end, bumpOrEnd, closing, cursorFits, bumped, goOn, shut, shutLast, dropLast, cursorCall, cursorStep, nestedIn}
 use Rattle.format.specs.Tree.{treeAt}
-use Rattle.format.specs.Tables.{countRules}
+use Rattle.format.specs.Tables.{Mode, entryAt}
 use Rattle.format.specs.Buffer.{judge}
 use Rattle.format.proofs.Each.{and-left, and-right, true-false}
 use Rattle.pack.specs.Answer.{spanOf}
@@ -29,15 +29,19 @@ use Rattle.tree.specs.declared.types.TokenTree.{TokenTree}
 use Rattle.tree.specs.declared.types.TokenTree.the-variants as trees
 use Rattle.tree.specs.declared.types.Leaf.{Leaf}
 use Rattle.tree.specs.declared.types.Subtree.{Subtree}
-use Rattle.decode.specs.Decode.{treeAnswer, decodedAt}
+use Rattle.tree.specs.Mode.{limitsOf, modeOf, Whole}
+use Rattle.tree.specs.declared.limits.Limits.{Limits}
+use Rattle.decode.specs.Judge.{limitRules}
+use Rattle.decode.specs.Decode.{treeAnswer, readIn}
 use Rattle.decode.specs.declared.decode.TreeAt.{TreeAt}
 use Rattle.decode.specs.declared.decode.TreeRead.{TreeRead}
 use Rattle.decode.specs.declared.decode.TreeRead.the-variants as reads
 use Rattle.decode.proofs.DecodeUse.{decoded-got, decoded-refused, sized-got, sized-refused}
-use Rattle.walk.specs.Source.{treeShape, treeReader}
+use Rattle.walk.specs.Source.{treesSized, sizes, treeShape, treeReaderIn, treeReader}
+use Rattle.walk.proofs.SizesReturns.{mode-sized}
 use Rattle.walk.proofs.WalkWords.{reads-decoded}
 use Rattle.walk.proofs.WalkReturns.{leaf-flat, subtree-holds}
-use Rattle.cursor.specs.Open.{opened, cursorOf, cursorRow, closes}
+use Rattle.cursor.specs.Open.{opened, cursorOf, agreed, closes}
 use Rattle.cursor.specs.Plan.{answerOf, changed, planOf, refusal, doing, May, cursorAt, Enters, GoesOn, Shuts, ShutsLast, Planned}
 use Rattle.cursor.specs.declared.state.At.{At}
 use Rattle.cursor.specs.declared.plan.Answer.the-variants as answers
@@ -65,55 +69,55 @@ module _ (y : TreeAt) (p : Subtree) (e : y .tree ≡ trees.Subtree p) where
 -- ---- over a leaf, into a subtree
 
 -- a tree shown by entries is of the sort that was read
-module _ (parts symbols : List ℕ) (t : RawTree) where
-  flat-punct : (p : RawPunct) → t ≡ raws.Punct p → treeShape .isSub (resolved parts symbols (rawOf t)) ≡ false
+module _ (M : Mode) (n : ℕ) (t : RawTree) where
+  flat-punct : (p : RawPunct) → t ≡ raws.Punct p → treeShape .isSub (resolved M n (rawOf t)) ≡ false
   unfolding rawOf resolved
-  flat-punct p e = ap (λ (u : RawTree). treeShape .isSub (resolved parts symbols (rawOf u))) e ∙ leaf-flat (punctWith parts (spanOf (p .span)) (p .char) (p .spacing))
+  flat-punct p e = ap (λ (u : RawTree). treeShape .isSub (resolved M n (rawOf u))) e ∙ leaf-flat (punctWith (entryAt M n (p .span .index)) (spanOf (p .span)) (p .char) (p .spacing))
 
-  flat-ident : (p : RawIdent) → t ≡ raws.Ident p → treeShape .isSub (resolved parts symbols (rawOf t)) ≡ false
+  flat-ident : (p : RawIdent) → t ≡ raws.Ident p → treeShape .isSub (resolved M n (rawOf t)) ≡ false
   unfolding rawOf resolved
-  flat-ident p e = ap (λ (u : RawTree). treeShape .isSub (resolved parts symbols (rawOf u))) e ∙ leaf-flat (identWith parts symbols (spanOf (p .span)) (p .symbol) (p .raw))
+  flat-ident p e = ap (λ (u : RawTree). treeShape .isSub (resolved M n (rawOf u))) e ∙ leaf-flat (identWith (entryAt M n (p .span .index)) (M .symbols) (spanOf (p .span)) (p .symbol) (p .raw))
 
-  flat-literal : (p : RawLiteral) → t ≡ raws.Literal p → treeShape .isSub (resolved parts symbols (rawOf t)) ≡ false
+  flat-literal : (p : RawLiteral) → t ≡ raws.Literal p → treeShape .isSub (resolved M n (rawOf t)) ≡ false
   unfolding rawOf resolved
   flat-literal p e =
-      ap (λ (u : RawTree). treeShape .isSub (resolved parts symbols (rawOf u))) e
-      ∙ leaf-flat (literalWith parts symbols (spanOf (p .span)) (p .symbol) (p .kind) (p .«raw_count») (p .«suffix_len»))
+      ap (λ (u : RawTree). treeShape .isSub (resolved M n (rawOf u))) e
+      ∙ leaf-flat (literalWith (entryAt M n (p .span .index)) (M .symbols) (spanOf (p .span)) (p .symbol) (p .kind) (p .«raw_count») (p .«suffix_len»))
 
   module _ (p : RawSubtree) (e : t ≡ raws.Subtree p) where
-    raw-holds : treeShape .isSub (resolved parts symbols (rawOf t)) ≡ true
+    raw-holds : treeShape .isSub (resolved M n (rawOf t)) ≡ true
     unfolding rawOf resolved
     raw-holds =
-        ap (λ (u : RawTree). treeShape .isSub (resolved parts symbols (rawOf u))) e
-        ∙ subtree-holds (subtreeWith parts (spanOf (p .opening)) (spanOf (p .closing)) (p .len .0) (p .kind)) .0
+        ap (λ (u : RawTree). treeShape .isSub (resolved M n (rawOf u))) e
+        ∙ subtree-holds (subtreeWith (entryAt M n (p .opening .index)) (entryAt M n (p .closing .index)) (spanOf (p .opening)) (spanOf (p .closing)) (p .len .0) (p .kind)) .0
 
-    raw-counts : treeShape .count (resolved parts symbols (rawOf t)) ≡ p .len .0
+    raw-counts : treeShape .count (resolved M n (rawOf t)) ≡ p .len .0
     unfolding rawOf resolved
     raw-counts =
-        ap (λ (u : RawTree). treeShape .count (resolved parts symbols (rawOf u))) e
-        ∙ subtree-holds (subtreeWith parts (spanOf (p .opening)) (spanOf (p .closing)) (p .len .0) (p .kind)) .1
+        ap (λ (u : RawTree). treeShape .count (resolved M n (rawOf u))) e
+        ∙ subtree-holds (subtreeWith (entryAt M n (p .opening .index)) (entryAt M n (p .closing .index)) (spanOf (p .opening)) (spanOf (p .closing)) (p .len .0) (p .kind)) .1
 
 module _ (c : At) (y : RawAt) (r : Plan) where
-  enter-flat : ((parts symbols : List ℕ) → treeShape .isSub (resolved parts symbols (rawOf (y .tree))) ≡ false) → c .number + 1 < 4294967296 → r ≡ doing (changes.On (y .next)) → Enters c y r
+  enter-flat : ((M : Mode) (n : ℕ) → treeShape .isSub (resolved M n (rawOf (y .tree))) ≡ false) → c .number + 1 < 4294967296 → r ≡ doing (changes.On (y .next)) → Enters c y r
   unfolding answerOf changed May
-  enter-flat d h q = record { step = λ R parts symbols os f. let g = d parts symbols in rw q (simp g); may = rw q h }
+  enter-flat d h q = record { step = λ R M n os f. let g = d M n in rw q (simp g); may = rw q h }
 
   pub enter-punct : (p : RawPunct) → y .tree ≡ raws.Punct p → c .number + 1 < 4294967296 → r ≡ doing (changes.On (y .next)) → Enters c y r
-  enter-punct p e h q = enter-flat (λ parts symbols. flat-punct parts symbols (y .tree) p e) h q
+  enter-punct p e h q = enter-flat (λ M n. flat-punct M n (y .tree) p e) h q
 
   pub enter-ident : (p : RawIdent) → y .tree ≡ raws.Ident p → c .number + 1 < 4294967296 → r ≡ doing (changes.On (y .next)) → Enters c y r
-  enter-ident p e h q = enter-flat (λ parts symbols. flat-ident parts symbols (y .tree) p e) h q
+  enter-ident p e h q = enter-flat (λ M n. flat-ident M n (y .tree) p e) h q
 
   pub enter-literal : (p : RawLiteral) → y .tree ≡ raws.Literal p → c .number + 1 < 4294967296 → r ≡ doing (changes.On (y .next)) → Enters c y r
-  enter-literal p e h q = enter-flat (λ parts symbols. flat-literal parts symbols (y .tree) p e) h q
+  enter-literal p e h q = enter-flat (λ M n. flat-literal M n (y .tree) p e) h q
 
   module _ (p : RawSubtree) (e : y .tree ≡ raws.Subtree p) where
     pub enter-deep : 256 ≤ c .depth → r ≡ refusal 4 (c .number) → Enters c y r
     enter-deep h q =
         record {
-          step = λ R parts symbols os f.
+          step = λ R M n os f.
               let g : leb 256 (length os) ≡ true = ap (leb 256) f ∙ le-leb _ _ h in
-              refused-plan 4 (c .number) r (cursorAt c os) q ∙ simp (raw-holds parts symbols (y .tree) p e, g);
+              refused-plan 4 (c .number) r (cursorAt c os) q ∙ simp (raw-holds M n (y .tree) p e, g);
           may = refused-may 4 (c .number) r c q;
         }
 
@@ -121,9 +125,9 @@ module _ (c : At) (y : RawAt) (r : Plan) where
     unfolding answerOf changed May
     enter-open h i q =
         record {
-          step = λ R parts symbols os f.
+          step = λ R M n os f.
               let g : leb 256 (length os) ≡ false = ap (leb 256) f ∙ lt-leb _ _ h in
-              rw q (simp (raw-holds parts symbols (y .tree) p e, raw-counts parts symbols (y .tree) p e, g));
+              rw q (simp (raw-holds M n (y .tree) p e, raw-counts M n (y .tree) p e, g));
           may = rw q (i, h);
         }
 
@@ -131,41 +135,44 @@ pub ruleset enter-cases = (enter-punct, enter-ident, enter-literal, enter-deep, 
 
 -- ---- to the next tree
 
-module _ (b parts symbols : List ℕ) (k : ℕ) (c : At) (p : Plan) where
-  pub go-end : k ≤ c .number → p ≡ doing changes.Stay → GoesOn b k parts symbols c p
-  unfolding answerOf changed May treeReader
+module _ (b : List ℕ) (M : Mode) (k : ℕ) (c : At) (p : Plan) where
+  pub go-end : k ≤ c .number → p ≡ doing changes.Stay → GoesOn b k M c p
+  unfolding answerOf changed May treeReaderIn
   go-end h q = record { step = λ os f. rw q (simp (le-leb _ _ h)); may = rw q tt }
 
-  module _ (h : c .number < k) (r : RawRead)
-      (f : r ≡ rawAnswer (judge (λ n t. t) (countRules (length parts / 3) (length symbols)) (c .number) (c .place) (treeAt b (c .place)))) where
-    before : leb (treeReader b k parts symbols .trees) (c .number) ≡ false
-    unfolding treeReader
-    before = lt-leb _ _ h
+module _ (b parts pair symbols : List ℕ) (N : Limits) (w : Whole N parts pair symbols) (k : ℕ) (c : At) (p : Plan) (h : c .number < k) (r : RawRead)
+    (f : r ≡ rawAnswer (judge (λ n t. t) (limitRules (limitsOf N)) (c .number) (c .place) (treeAt b (c .place)))) where
+  abbrev M : Mode
+  M = modeOf N parts pair symbols
 
-    goes : (z : Reply TokenTree) → decodedAt b parts symbols (c .number) (c .place) ≡ z → (os : List Open)
-        → goOn treeShape (treeReader b k parts symbols) (cursorAt c os) ≡ bumped treeShape (treeReader b k parts symbols) (cursorAt c os) z
-    goes z e os =
-        let g = before in
-        let d : treeReader b k parts symbols .read (c .number) (c .place) ≡ z = reads-decoded b k parts symbols (c .number) (c .place) ∙ e in
-        simp (g, d)
+  before : leb (treeReaderIn b k M .trees) (c .number) ≡ false
+  unfolding treeReaderIn
+  before = lt-leb _ _ h
 
-    pub go-refused : (i : ℕ) → r ≡ rawReads.Bad i → p ≡ refusal i (c .number) → GoesOn b k parts symbols c p
-    go-refused i g q =
-        let d = sized-refused b parts symbols (c .number) (c .place) r f i g in
-        record {
-          step = λ os e. refused-plan i (c .number) p (cursorAt c os) q ∙ sym (goes (bad i) d os);
-          may = refused-may i (c .number) p c q;
-        }
+  goes : (z : Reply TokenTree) → readIn b M (c .number) (c .place) ≡ z → (os : List Open)
+      → goOn treeShape (treeReaderIn b k M) (cursorAt c os) ≡ bumped treeShape (treeReaderIn b k M) (cursorAt c os) z
+  goes z e os =
+      let g = before in
+      let d : treeReaderIn b k M .read (c .number) (c .place) ≡ z = reads-decoded b k M (c .number) (c .place) ∙ e in
+      simp (g, d)
 
-    pub go-got : (y : RawAt) → r ≡ rawReads.Got y → Enters c y p → GoesOn b k parts symbols c p
-    go-got y g n =
-        let d = sized-got b parts symbols (c .number) (c .place) r f y g in
-        record {
-          step = λ os e.
-              n .step (treeReader b k parts symbols) parts symbols os e
-              ∙ sym (goes (got (resolved parts symbols (rawOf (y .tree))) (y .next) (y .children .0)) d os);
-          may = n .may;
-        }
+  pub go-refused : (i : ℕ) → r ≡ rawReads.Bad i → p ≡ refusal i (c .number) → GoesOn b k M c p
+  go-refused i g q =
+      let d = sized-refused b N parts pair symbols w (c .number) (c .place) r f i g in
+      record {
+        step = λ os e. refused-plan i (c .number) p (cursorAt c os) q ∙ sym (goes (bad i) d os);
+        may = refused-may i (c .number) p c q;
+      }
+
+  pub go-got : (y : RawAt) → r ≡ rawReads.Got y → Enters c y p → GoesOn b k M c p
+  go-got y g n =
+      let d = sized-got b N parts pair symbols w (c .number) (c .place) r f y g in
+      record {
+        step = λ os e.
+            n .step (treeReaderIn b k M) M (c .number) os e
+            ∙ sym (goes (got (resolved M (c .number) (rawOf (y .tree))) (y .next) (y .children .0)) d os);
+        may = n .may;
+      }
 
 pub ruleset go-cases = (go-end, go-refused, go-got)
 
@@ -197,72 +204,68 @@ module _ (y : TreeAt) (count : ℕ) where
           may = λ c h. h;
         }
 
-module _ (b parts symbols : List ℕ) (c : At) (ns cs ps : List ℕ) (h : 0 < c .depth) (p : Plan) (r : TreeRead)
-    (f : r ≡ treeAnswer (decodedAt b parts symbols (getD ns (c .depth - 1) 0) (getD ps (c .depth - 1) 0))) where
+module _ (b : List ℕ) (M : Mode) (c : At) (ns cs ps : List ℕ) (h : 0 < c .depth) (p : Plan) (r : TreeRead)
+    (f : r ≡ treeAnswer (readIn b M (getD ns (c .depth - 1) 0) (getD ps (c .depth - 1) 0))) where
   abbrev lastOpen : Open
   lastOpen = record { number = getD ns (c .depth - 1) 0; count = getD cs (c .depth - 1) 0; place = getD ps (c .depth - 1) 0 }
 
-  lasts : (k : ℕ) (z : Reply TokenTree) → decodedAt b parts symbols (getD ns (c .depth - 1) 0) (getD ps (c .depth - 1) 0) ≡ z
-      → shutLast treeShape (treeReader b k parts symbols) (cursorOf c ns cs ps) (opened ns cs ps (c .depth))
-      ≡ shut treeShape (treeReader b k parts symbols) (cursorOf c ns cs ps) lastOpen (opened ns cs ps (c .depth - 1)) z
+  lasts : (k : ℕ) (z : Reply TokenTree) → readIn b M (getD ns (c .depth - 1) 0) (getD ps (c .depth - 1) 0) ≡ z
+      → shutLast treeShape (treeReaderIn b k M) (cursorOf c ns cs ps) (opened ns cs ps (c .depth))
+      ≡ shut treeShape (treeReaderIn b k M) (cursorOf c ns cs ps) lastOpen (opened ns cs ps (c .depth - 1)) z
   lasts k z e =
-      let d : treeReader b k parts symbols .read (getD ns (c .depth - 1) 0) (getD ps (c .depth - 1) 0) ≡ z
-      = reads-decoded b k parts symbols (getD ns (c .depth - 1) 0) (getD ps (c .depth - 1) 0) ∙ e in
-      ap (shutLast treeShape (treeReader b k parts symbols) (cursorOf c ns cs ps)) (opened-last ns cs ps (c .depth) h)
-      ∙ ap (shut treeShape (treeReader b k parts symbols) (cursorOf c ns cs ps) lastOpen (opened ns cs ps (c .depth - 1))) d
+      let d : treeReaderIn b k M .read (getD ns (c .depth - 1) 0) (getD ps (c .depth - 1) 0) ≡ z
+      = reads-decoded b k M (getD ns (c .depth - 1) 0) (getD ps (c .depth - 1) 0) ∙ e in
+      ap (shutLast treeShape (treeReaderIn b k M) (cursorOf c ns cs ps)) (opened-last ns cs ps (c .depth) h)
+      ∙ ap (shut treeShape (treeReaderIn b k M) (cursorOf c ns cs ps) lastOpen (opened ns cs ps (c .depth - 1))) d
 
-  pub last-refused : (i : ℕ) → r ≡ reads.Refused i → p ≡ refusal i (getD ns (c .depth - 1) 0) → ShutsLast b parts symbols c ns cs ps p
+  pub last-refused : (i : ℕ) → r ≡ reads.Refused i → p ≡ refusal i (getD ns (c .depth - 1) 0) → ShutsLast b M c ns cs ps p
   last-refused i g q =
-      let d = decoded-refused (decodedAt b parts symbols (getD ns (c .depth - 1) 0) (getD ps (c .depth - 1) 0)) r f i g in
+      let d = decoded-refused (readIn b M (getD ns (c .depth - 1) 0) (getD ps (c .depth - 1) 0)) r f i g in
       record {
         step = λ k. refused-plan i (getD ns (c .depth - 1) 0) p (cursorOf c ns cs ps) q ∙ sym (lasts k (bad i) d);
         may = refused-may i (getD ns (c .depth - 1) 0) p c q;
       }
 
-  pub last-got : (y : TreeAt) → r ≡ reads.Got y → Shuts y (getD cs (c .depth - 1) 0) p → ShutsLast b parts symbols c ns cs ps p
+  pub last-got : (y : TreeAt) → r ≡ reads.Got y → Shuts y (getD cs (c .depth - 1) 0) p → ShutsLast b M c ns cs ps p
   last-got y g n =
-      let d = decoded-got (decodedAt b parts symbols (getD ns (c .depth - 1) 0) (getD ps (c .depth - 1) 0)) r f y g in
+      let d = decoded-got (readIn b M (getD ns (c .depth - 1) 0) (getD ps (c .depth - 1) 0)) r f y g in
       let o = opened-last ns cs ps (c .depth) h in
       record {
         step = λ k.
-            subst (λ (os : List Open). planOf p (cursorAt c os) ≡ shut treeShape (treeReader b k parts symbols) (cursorAt c os) lastOpen (opened ns cs ps (c .depth - 1)) (got (y .tree) (y .next) (y .children .0)))
-            (sym o) (n .step (treeReader b k parts symbols) c lastOpen (opened ns cs ps (c .depth - 1)) refl)
+            subst (λ (os : List Open). planOf p (cursorAt c os) ≡ shut treeShape (treeReaderIn b k M) (cursorAt c os) lastOpen (opened ns cs ps (c .depth - 1)) (got (y .tree) (y .next) (y .children .0)))
+            (sym o) (n .step (treeReaderIn b k M) c lastOpen (opened ns cs ps (c .depth - 1)) refl)
             ∙ sym (lasts k (got (y .tree) (y .next) (y .children .0)) d);
         may = n .may c h;
       }
 
 pub ruleset shut-cases = (shut-leaf, shut-other, shut-same, last-refused, last-got)
 
--- ---- rows 1 and 10, and the calls
+-- ---- row 10, and the calls
 
-module _ (R : Reader TokenTree) (c : Cursor) (row : ℕ) (e : row ≡ cursorRow R c) where
-  pub row-stops : (call : CursorCall) → (row ≡ 0 → ⊥) → (refused row 0, c) ≡ cursorStep treeShape R call c
-  unfolding cursorRow cursorStep
-  row-stops call h = go _ _ refl refl
-    where
-      go : (x y : Bool) → R .sized ≡ x → cursorFits treeShape R c ≡ y → (refused row 0, c) ≡ cursorStep treeShape R call c
-      go false y f g = rw e (simp f)
-      go true false f g = rw e (simp (f, g))
-      go true true f g = let z : row ≡ 0 = e ∙ simp (f, g) in absurd (h z)
-
-  row-passes : row ≡ 0 → (R .sized ≡ true) × (cursorFits treeShape R c ≡ true)
-  unfolding cursorRow
-  row-passes h = go _ _ refl refl
-    where
-      go : (x y : Bool) → R .sized ≡ x → cursorFits treeShape R c ≡ y → (R .sized ≡ true) × (cursorFits treeShape R c ≡ true)
-      go false y f g = let q : cursorRow R c ≡ 0 = sym e ∙ h in let z : _≡_ {A = ℕ} 1 0 = simp f at q in absurd (omega arith)
-      go true false f g = let q : cursorRow R c ≡ 0 = sym e ∙ h in let z : _≡_ {A = ℕ} 10 0 = simp (f, g) at q in absurd (omega arith)
-      go true true f g = (f, g)
-
-  pub row-calls : row ≡ 0 → (call : CursorCall) → cursorStep treeShape R call c ≡ cursorCall treeShape R call c
+module _ (R : Reader TokenTree) (s : R .sized ≡ true) (c : Cursor) (call : CursorCall) where
+  pub fit-stops : cursorFits treeShape R c ≡ false → (refused 10 0, c) ≡ cursorStep treeShape R call c
   unfolding cursorStep
-  row-calls h call = let q = row-passes h in simp (q .0, q .1)
+  fit-stops f = simp (s, f)
 
-  row-few : row ≡ 0 → length (c .opened) ≤ 256
-  row-few h =
-      let n = nestedIn (c .number) (c .place) (c .number) (c .opened) in
-      let q = and-left (leb (c .number) (R .trees) && leb (c .place) (R .bytes) && leb (length (c .opened)) 256) n (row-passes h .1) in
-      leb-true (length (c .opened)) 256 (and-right (leb (c .number) (R .trees) && leb (c .place) (R .bytes)) (leb (length (c .opened)) 256) q)
+  pub fit-calls : cursorFits treeShape R c ≡ true → cursorStep treeShape R call c ≡ cursorCall treeShape R call c
+  unfolding cursorStep
+  fit-calls f = simp (s, f)
+
+module _ (k bytes : ℕ) (c : At) (ns cs ps : List ℕ) (x : Bool) (e : x ≡ agreed k bytes (cursorOf c ns cs ps)) where
+  pub plan-few : not x ≡ false → c .depth ≤ 256
+  plan-few h =
+      let os = opened ns cs ps (c .depth) in
+      let n = nestedIn (c .number) (c .place) (c .number) os in
+      let q = and-left (leb (c .number) k && leb (c .place) bytes && leb (length os) 256) n (sym e ∙ not-false x h) in
+      let d = leb-true (length os) 256 (and-right (leb (c .number) k && leb (c .place) bytes) (leb (length os) 256) q) in
+      let l = opened-length ns cs ps (c .depth) in
+      omega arith
+
+-- row 1 of document 01's tables
+pub sizes-stop : (b : List ℕ) (k : ℕ) (parts symbols : List ℕ) (s : Bool) → s ≡ sizes k parts symbols → not s ≡ true → (call : CursorCall) (c : Cursor)
+    → (refused 1 0, c) ≡ cursorStep treeShape (treeReader b k parts symbols) call c
+unfolding cursorStep treeReaderIn
+sizes-stop b k parts symbols s e h call c = let f : sizes k parts symbols ≡ false = sym e ∙ not-true s h in simp f
 
 drop-last : (R : Reader TokenTree) (os : List Open) → drop 1 os ≡ dropLast treeShape R os
 drop-last R [] = refl
@@ -273,73 +276,76 @@ unfolding opened closes
 closing-closes n ns cs ps zero = refl
 closing-closes n ns cs ps (suc d) = refl
 
-module _ (b parts symbols : List ℕ) (k : ℕ) (c : At) (ns cs ps : List ℕ) (row : ℕ) (e : row ≡ cursorRow (treeReader b k parts symbols) (cursorOf c ns cs ps)) where
-  pub plan-row : (row ≡ 0 → ⊥) → (call : CursorCall) (p : Plan) → p ≡ refusal row 0 → Planned b k parts symbols call c ns cs ps p
-  plan-row h call p q =
+module _ (c : At) (ns cs : List ℕ) (x : Bool) (f : x ≡ closes (c .number) ns cs (c .depth)) where
+  closes-some : x ≡ true → 0 < c .depth
+  unfolding closes
+  closes-some g = go (c .depth) (sym f ∙ g)
+    where
+      go : (d : ℕ) → closes (c .number) ns cs d ≡ true → 0 < d
+      go zero i = true-false false i refl
+      go (suc d) i = omega arith
+
+  pub end-some : not x ≡ false → 0 < c .depth
+  end-some g = closes-some (not-false x g)
+
+module _ (b parts pair symbols : List ℕ) (N : Limits) (k : ℕ) (s : treesSized k ≡ true) (c : At) (ns cs ps : List ℕ)
+    (z : Bool) (e : z ≡ agreed k (length b) (cursorOf c ns cs ps)) where
+  abbrev own : Mode
+  own = modeOf N parts pair symbols
+
+  abbrev R : Reader TokenTree
+  R = treeReaderIn b k own
+
+  pub plan-10 : not z ≡ true → (call : CursorCall) (p : Plan) → p ≡ refusal 10 0 → Planned b k own call c ns cs ps p
+  unfolding treeReaderIn
+  plan-10 h call p q =
       record {
-        step = refused-plan row 0 p (cursorOf c ns cs ps) q ∙ row-stops (treeReader b k parts symbols) (cursorOf c ns cs ps) row e call h;
-        may = refused-may row 0 p c q;
+        step = refused-plan 10 0 p (cursorOf c ns cs ps) q ∙ fit-stops R (mode-sized b k N parts pair symbols s) (cursorOf c ns cs ps) call (sym e ∙ not-true z h);
+        may = refused-may 10 0 p c q;
       }
 
-  module _ (h : row ≡ 0) where
-    pub plan-few : c .depth ≤ 256
-    plan-few =
-        let q = row-few (treeReader b k parts symbols) (cursorOf c ns cs ps) row e h in
-        let l = opened-length ns cs ps (c .depth) in
-        omega arith
-
-    called : (call : CursorCall) → cursorStep treeShape (treeReader b k parts symbols) call (cursorOf c ns cs ps) ≡ cursorCall treeShape (treeReader b k parts symbols) call (cursorOf c ns cs ps)
-    called = row-calls (treeReader b k parts symbols) (cursorOf c ns cs ps) row e h
+  module _ (h : not z ≡ false) where
+    called : (call : CursorCall) → cursorStep treeShape R call (cursorOf c ns cs ps) ≡ cursorCall treeShape R call (cursorOf c ns cs ps)
+    unfolding treeReaderIn
+    called call = fit-calls R (mode-sized b k N parts pair symbols s) (cursorOf c ns cs ps) call (sym e ∙ not-false z h)
 
     module _ (x : Bool) (f : x ≡ closes (c .number) ns cs (c .depth)) where
       is-closing : closing (c .number) (opened ns cs ps (c .depth)) ≡ x
       is-closing = closing-closes (c .number) ns cs ps (c .depth) ∙ sym f
 
-      closes-some : x ≡ true → 0 < c .depth
-      unfolding closes
-      closes-some g = go (c .depth) (sym f ∙ g)
-        where
-          go : (d : ℕ) → closes (c .number) ns cs d ≡ true → 0 < d
-          go zero i = true-false false i refl
-          go (suc d) i = omega arith
-
-      refused-10 : (call : CursorCall) (p : Plan) → p ≡ refusal 10 0 → cursorCall treeShape (treeReader b k parts symbols) call (cursorOf c ns cs ps) ≡ (refused 10 0, cursorOf c ns cs ps)
-          → Planned b k parts symbols call c ns cs ps p
+      refused-10 : (call : CursorCall) (p : Plan) → p ≡ refusal 10 0 → cursorCall treeShape R call (cursorOf c ns cs ps) ≡ (refused 10 0, cursorOf c ns cs ps)
+          → Planned b k own call c ns cs ps p
       refused-10 call p q z = record { step = refused-plan 10 0 p (cursorOf c ns cs ps) q ∙ sym (called call ∙ z); may = refused-may 10 0 p c q }
 
-      goes-on : (call : CursorCall) (p : Plan) → GoesOn b k parts symbols c p
-          → cursorCall treeShape (treeReader b k parts symbols) call (cursorOf c ns cs ps) ≡ goOn treeShape (treeReader b k parts symbols) (cursorOf c ns cs ps)
-          → Planned b k parts symbols call c ns cs ps p
+      goes-on : (call : CursorCall) (p : Plan) → GoesOn b k own c p
+          → cursorCall treeShape R call (cursorOf c ns cs ps) ≡ goOn treeShape R (cursorOf c ns cs ps)
+          → Planned b k own call c ns cs ps p
       goes-on call p n z = record { step = n .step (opened ns cs ps (c .depth)) (opened-length ns cs ps (c .depth)) ∙ sym (called call ∙ z); may = n .may }
 
-      pub bump-closing : x ≡ true → (p : Plan) → p ≡ refusal 10 0 → Planned b k parts symbols bump c ns cs ps p
+      pub bump-closing : x ≡ true → (p : Plan) → p ≡ refusal 10 0 → Planned b k own bump c ns cs ps p
       bump-closing g p q = let z = is-closing ∙ g in refused-10 bump p q (simp z)
 
-      pub bump-on : x ≡ false → (p : Plan) → GoesOn b k parts symbols c p → Planned b k parts symbols bump c ns cs ps p
+      pub bump-on : x ≡ false → (p : Plan) → GoesOn b k own c p → Planned b k own bump c ns cs ps p
       bump-on g p n = let z = is-closing ∙ g in goes-on bump p n (simp z)
 
-      pub either-on : x ≡ false → (p : Plan) → GoesOn b k parts symbols c p → Planned b k parts symbols bumpOrEnd c ns cs ps p
+      pub either-on : x ≡ false → (p : Plan) → GoesOn b k own c p → Planned b k own bumpOrEnd c ns cs ps p
       either-on g p n = let z = is-closing ∙ g in goes-on bumpOrEnd p n (simp z)
 
-      pub either-shut : x ≡ true → (p : Plan) → p ≡ doing changes.Shut → Planned b k parts symbols bumpOrEnd c ns cs ps p
+      pub either-shut : x ≡ true → (p : Plan) → p ≡ doing changes.Shut → Planned b k own bumpOrEnd c ns cs ps p
       unfolding answerOf changed May
       either-shut g p q =
           let z = is-closing ∙ g in
-          let d = drop-last (treeReader b k parts symbols) (opened ns cs ps (c .depth)) in
-          let w : planOf p (cursorOf c ns cs ps) ≡ cursorCall treeShape (treeReader b k parts symbols) bumpOrEnd (cursorOf c ns cs ps) = rw q (simp (z, d)) in
-          record { step = w ∙ sym (called bumpOrEnd); may = rw q (closes-some g) }
+          let d = drop-last R (opened ns cs ps (c .depth)) in
+          let w : planOf p (cursorOf c ns cs ps) ≡ cursorCall treeShape R bumpOrEnd (cursorOf c ns cs ps) = rw q (simp (z, d)) in
+          record { step = w ∙ sym (called bumpOrEnd); may = rw q (closes-some c ns cs x f g) }
 
-      pub end-open : not x ≡ true → (p : Plan) → p ≡ refusal 10 0 → Planned b k parts symbols end c ns cs ps p
+      pub end-open : not x ≡ true → (p : Plan) → p ≡ refusal 10 0 → Planned b k own end c ns cs ps p
       end-open g p q = let z = is-closing ∙ not-true x g in refused-10 end p q (simp z)
 
-      module _ (g : not x ≡ false) where
-        pub end-some : 0 < c .depth
-        end-some = closes-some (not-false x g)
+      pub end-shut : not x ≡ false → (p : Plan) → ShutsLast b own c ns cs ps p → Planned b k own end c ns cs ps p
+      end-shut g p n =
+          let z = is-closing ∙ not-false x g in
+          let w : cursorCall treeShape R end (cursorOf c ns cs ps) ≡ shutLast treeShape R (cursorOf c ns cs ps) (opened ns cs ps (c .depth)) = simp z in
+          record { step = n .step k ∙ sym (called end ∙ w); may = n .may }
 
-        pub end-shut : (p : Plan) → ShutsLast b parts symbols c ns cs ps p → Planned b k parts symbols end c ns cs ps p
-        end-shut p n =
-            let z = is-closing ∙ not-false x g in
-            let w : cursorCall treeShape (treeReader b k parts symbols) end (cursorOf c ns cs ps) ≡ shutLast treeShape (treeReader b k parts symbols) (cursorOf c ns cs ps) (opened ns cs ps (c .depth)) = simp z in
-            record { step = n .step k ∙ sym (called end ∙ w); may = n .may }
-
-pub ruleset plan-cases = (plan-row, plan-few, bump-closing, bump-on, either-on, either-shut, end-open, end-some, end-shut)
+pub ruleset plan-cases = (plan-10, plan-few, bump-closing, bump-on, either-on, either-shut, end-open, end-some, end-shut)

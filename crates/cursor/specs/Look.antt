@@ -6,13 +6,14 @@ use mathlib.Core.List.{List, [], _∷_}
 use Rattle.format.specs.Test.{if_then_else_}
 use Rattle.format.specs.Reader as format
 use Rattle.format.specs.Cursor.{tokenTree, peekTwoLeaves, treeHere, secondLeaf, firstLeaf, cursorStep}
+use Rattle.format.specs.Tables.{Mode}
 use Rattle.format.specs.Buffer.{wordShape, ownReader}
 use Rattle.tree.specs.declared.types.Spacing.the-variants.{Alone}
 use Rattle.tree.specs.declared.types.Leaf.{Leaf}
 use Rattle.tree.specs.declared.types.Leaf.the-variants.{Punct}
 use Rattle.tree.specs.declared.types.TokenTree.{TokenTree}
 use Rattle.tree.specs.declared.types.TokenTree.the-variants as trees
-use Rattle.walk.specs.Source.{treeShape, treeReader, answerWords}
+use Rattle.walk.specs.Source.{treeShape, treeReaderIn, treeReader, answerWords}
 use Rattle.cursor.specs.Open.{cursorOf}
 use Rattle.cursor.specs.Plan.{answerOf}
 use Rattle.cursor.specs.Moves.{atOf}
@@ -33,9 +34,6 @@ pub record Tells (b : List ℕ) (k : ℕ) (parts symbols : List ℕ) (c : At) (n
 -- by value
 abbrev pub TellsOf : List ℕ → ℕ → List ℕ → List ℕ → Cursor → Answer → Type 0
 TellsOf b k parts symbols c r = Tells b k parts symbols (atOf c) (c .numbers) (c .counts) (c .places) r
-
-pub record Here (b parts symbols : List ℕ) (c : At) (r : Answer) : Type 0 where
-  pub step : (k : ℕ) → answerOf r ≡ treeHere treeShape (treeReader b k parts symbols) (c .number) (treeReader b k parts symbols .read (c .number) (c .place))
 
 -- ---- two leaves
 
@@ -67,10 +65,22 @@ pub record Peeks (b : List ℕ) (k : ℕ) (parts symbols : List ℕ) (c : At) (n
 abbrev pub PeeksOf : List ℕ → ℕ → List ℕ → List ℕ → Cursor → TwoLeaves → Type 0
 PeeksOf b k parts symbols c r = Peeks b k parts symbols (atOf c) (c .numbers) (c .counts) (c .places) r
 
-pub record Second (b parts symbols : List ℕ) (n p : ℕ) (near : Leaf) (r : TwoLeaves) : Type 0 where
-  pub step : (k : ℕ) → peekOf r ≡ secondLeaf treeShape (treeReader b k parts symbols) n (trees.Leaf near) (treeReader b k parts symbols .read (n + 1) p)
+-- ---- the same over the tables of a mode, and what the parts of a call promise
+
+pub record TellsIn (b : List ℕ) (k : ℕ) (M : Mode) (c : At) (ns cs ps : List ℕ) (r : Answer) : Type 0 where
+  pub exact : answerOf r ≡ cursorStep treeShape (treeReaderIn b k M) tokenTree (cursorOf c ns cs ps) .0
+
+pub record PeeksIn (b : List ℕ) (k : ℕ) (M : Mode) (c : At) (ns cs ps : List ℕ) (r : TwoLeaves) : Type 0 where
+  pub exact : peekOf r ≡ cursorStep treeShape (treeReaderIn b k M) peekTwoLeaves (cursorOf c ns cs ps) .0
   pub whole : r ≡ tidy r
 
-pub record First (b parts symbols : List ℕ) (c : At) (r : TwoLeaves) : Type 0 where
-  pub step : (k : ℕ) → peekOf r ≡ firstLeaf treeShape (treeReader b k parts symbols) (c .number) (treeReader b k parts symbols .read (c .number) (c .place))
+pub record Here (b : List ℕ) (M : Mode) (c : At) (r : Answer) : Type 0 where
+  pub step : (k : ℕ) → answerOf r ≡ treeHere treeShape (treeReaderIn b k M) (c .number) (treeReaderIn b k M .read (c .number) (c .place))
+
+pub record Second (b : List ℕ) (M : Mode) (n p : ℕ) (near : Leaf) (r : TwoLeaves) : Type 0 where
+  pub step : (k : ℕ) → peekOf r ≡ secondLeaf treeShape (treeReaderIn b k M) n (trees.Leaf near) (treeReaderIn b k M .read (n + 1) p)
+  pub whole : r ≡ tidy r
+
+pub record First (b : List ℕ) (M : Mode) (c : At) (r : TwoLeaves) : Type 0 where
+  pub step : (k : ℕ) → peekOf r ≡ firstLeaf treeShape (treeReaderIn b k M) (c .number) (treeReaderIn b k M .read (c .number) (c .place))
   pub whole : r ≡ tidy r

@@ -7,10 +7,11 @@ use lib.ListN.{length, set, replicate}
 use Rattle.format.specs.Test.{if_then_else_}
 use Rattle.format.specs.Cursor as calls
 use Rattle.format.specs.Cursor.{Open, CursorCall, cursorStep}
+use Rattle.format.specs.Tables.{Mode}
 use Rattle.format.specs.Buffer.{wordShape, ownReader}
 use Rattle.walk.specs.Source.{treeShape, treeReader, answerWords}
 use Rattle.cursor.specs.Open.{cursorOf}
-use Rattle.cursor.specs.Plan.{answerOf}
+use Rattle.cursor.specs.Plan.{answerOf, Planned}
 use Rattle.cursor.specs.declared.state.At.{At}
 use Rattle.cursor.specs.declared.plan.Answer.{Answer}
 use Rattle.cursor.specs.declared.plan.Change.{Change}
@@ -91,3 +92,10 @@ pub record Applied (c : At) (change : Change) (ns cs ps : List ℕ) (c′ : At) 
   pub numbers : ns′ ≡ stored change ns (c .depth) (c .number)
   pub counts : cs′ ≡ stored change cs (c .depth) (countIn change)
   pub places : ps′ ≡ stored change ps (c .depth) (c .place)
+
+-- a call over the tables of a mode: a plan, carried out
+pub record MovesIn (b : List ℕ) (k : ℕ) (M : Mode) (call : CursorCall) (c : At) (ns cs ps : List ℕ)
+    (answer : Answer) (c′ : At) (ns′ cs′ ps′ : List ℕ) : Type 0 where
+  pub change : Change
+  pub planned : Planned b k M call c ns cs ps (record { answer = answer; change = change })
+  pub applied : Applied c change ns cs ps c′ ns′ cs′ ps′

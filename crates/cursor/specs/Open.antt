@@ -1,13 +1,11 @@
 -- A cursor's open subtrees in three arrays, and the tests on them.
 use Prim.Native.Nat.{ℕ, zero, suc, _+_}
-use mathlib.Core.Bool.{Bool, false, not, _&&_}
+use mathlib.Core.Bool.{Bool, true, false, _&&_}
 use mathlib.Core.List.{List, [], _∷_}
 use lib.Dec.{ltb, eqb}
 use lib.ListN.{getD}
-use Rattle.format.specs.Test.{if_then_else_}
-use Rattle.format.specs.Reader.{Reader}
+use Rattle.format.specs.Reader.{bad}
 use Rattle.format.specs.Cursor.{Open, Cursor, cursorFits}
-use Rattle.tree.specs.declared.types.TokenTree.{TokenTree}
 use Rattle.walk.specs.Source.{treeShape}
 use Rattle.cursor.specs.declared.state.At.{At}
 
@@ -19,9 +17,9 @@ opened ns cs ps (suc d) = record { number = getD ns d 0; count = getD cs d 0; pl
 abbrev pub cursorOf : At → List ℕ → List ℕ → List ℕ → Cursor
 cursorOf c ns cs ps = record { number = c .number; place = c .place; opened = opened ns cs ps (c .depth) }
 
--- "Checks: 1, 10": the number, or 0
-unfoldable pub cursorRow : Reader TokenTree → Cursor → ℕ
-cursorRow R c = if not (R .sized) then 1 else (if not (cursorFits treeShape R c) then 10 else 0)
+-- not "A cursor disagrees (10)", which asks no more of a buffer than how many trees and bytes it has
+abbrev pub agreed : ℕ → ℕ → Cursor → Bool
+agreed k bytes c = cursorFits treeShape (record { sized = true; trees = k; bytes = bytes; read = λ n p. bad 0 }) c
 
 -- "closing means one is open and n is the last one's number + 1 + descendants"
 unfoldable pub closes : ℕ → List ℕ → List ℕ → ℕ → Bool

@@ -6,12 +6,13 @@ use lib.ListN.{length, drop}
 use Rattle.format.specs.Reader as format
 use Rattle.format.specs.Cursor as calls
 use Rattle.format.specs.Cursor.{Open, Cursor, CursorCall}
+use Rattle.format.specs.Tables.{Mode}
 use Rattle.tree.specs.Raw.{rawOf}
 use Rattle.tree.specs.Types.{resolved}
 use Rattle.tree.specs.declared.raw.RawAt.{RawAt}
 use Rattle.tree.specs.declared.types.TokenTree.{TokenTree}
 use Rattle.decode.specs.declared.decode.TreeAt.{TreeAt}
-use Rattle.walk.specs.Source.{treeShape, treeReader}
+use Rattle.walk.specs.Source.{treeShape, treeReaderIn}
 use Rattle.cursor.specs.Open.{opened, cursorOf}
 use Rattle.cursor.specs.declared.state.At.{At}
 use Rattle.cursor.specs.declared.plan.Answer.{Answer}
@@ -58,16 +59,16 @@ May c changes.Shut = 0 < c .depth
 abbrev pub cursorAt : At → List Open → Cursor
 cursorAt c os = record { number = c .number; place = c .place; opened = os }
 
--- ---- what the parts of a call promise
+-- ---- what the parts of a call promise, over the tables of a mode
 
 -- whatever the tables hold
 pub record Enters (c : At) (y : RawAt) (r : Plan) : Type 0 where
-  pub step : (R : format.Reader TokenTree) (parts symbols : List ℕ) (os : List Open) → length os ≡ c .depth
-      → planOf r (cursorAt c os) ≡ calls.bumped treeShape R (cursorAt c os) (format.got (resolved parts symbols (rawOf (y .tree))) (y .next) (y .children .0))
+  pub step : (R : format.Reader TokenTree) (M : Mode) (n : ℕ) (os : List Open) → length os ≡ c .depth
+      → planOf r (cursorAt c os) ≡ calls.bumped treeShape R (cursorAt c os) (format.got (resolved M n (rawOf (y .tree))) (y .next) (y .children .0))
   pub may : May c (r .change)
 
-pub record GoesOn (b : List ℕ) (k : ℕ) (parts symbols : List ℕ) (c : At) (r : Plan) : Type 0 where
-  pub step : (os : List Open) → length os ≡ c .depth → planOf r (cursorAt c os) ≡ calls.goOn treeShape (treeReader b k parts symbols) (cursorAt c os)
+pub record GoesOn (b : List ℕ) (k : ℕ) (M : Mode) (c : At) (r : Plan) : Type 0 where
+  pub step : (os : List Open) → length os ≡ c .depth → planOf r (cursorAt c os) ≡ calls.goOn treeShape (treeReaderIn b k M) (cursorAt c os)
   pub may : May c (r .change)
 
 pub record Shuts (y : TreeAt) (count : ℕ) (r : Plan) : Type 0 where
@@ -75,11 +76,11 @@ pub record Shuts (y : TreeAt) (count : ℕ) (r : Plan) : Type 0 where
       → planOf r (cursorAt c (o ∷ os)) ≡ calls.shut treeShape R (cursorAt c (o ∷ os)) o os (format.got (y .tree) (y .next) (y .children .0))
   pub may : (c : At) → 0 < c .depth → May c (r .change)
 
-pub record ShutsLast (b parts symbols : List ℕ) (c : At) (ns cs ps : List ℕ) (r : Plan) : Type 0 where
-  pub step : (k : ℕ) → planOf r (cursorOf c ns cs ps) ≡ calls.shutLast treeShape (treeReader b k parts symbols) (cursorOf c ns cs ps) (opened ns cs ps (c .depth))
+pub record ShutsLast (b : List ℕ) (M : Mode) (c : At) (ns cs ps : List ℕ) (r : Plan) : Type 0 where
+  pub step : (k : ℕ) → planOf r (cursorOf c ns cs ps) ≡ calls.shutLast treeShape (treeReaderIn b k M) (cursorOf c ns cs ps) (opened ns cs ps (c .depth))
   pub may : May c (r .change)
 
 -- a call: its answer, and the cursor that its change makes
-pub record Planned (b : List ℕ) (k : ℕ) (parts symbols : List ℕ) (call : CursorCall) (c : At) (ns cs ps : List ℕ) (r : Plan) : Type 0 where
-  pub step : planOf r (cursorOf c ns cs ps) ≡ calls.cursorStep treeShape (treeReader b k parts symbols) call (cursorOf c ns cs ps)
+pub record Planned (b : List ℕ) (k : ℕ) (M : Mode) (call : CursorCall) (c : At) (ns cs ps : List ℕ) (r : Plan) : Type 0 where
+  pub step : planOf r (cursorOf c ns cs ps) ≡ calls.cursorStep treeShape (treeReaderIn b k M) call (cursorOf c ns cs ps)
   pub may : May c (r .change)

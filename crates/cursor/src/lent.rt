@@ -6,11 +6,21 @@ use crate::plan::plan_bump;
 use crate::plan::plan_bump_or_end;
 use crate::plan::plan_end;
 use crate::state::At;
+use tree::limits::Limits;
+use tree::limits::own_limits;
+use tree::refusal::Refusal;
+use walk::sizes::sized;
+use width::PART_WORDS;
+ghost use mathlib.Core.Path.{_≡_};
+ghost use mathlib.Core.Bool.{true};
 ghost use Prim.Native.Nat.{_+_, _<_};
 ghost use Rattle.format.specs.Cursor.{bump, end, bumpOrEnd};
+ghost use Rattle.tree.specs.Mode.{modeOf, Whole};
+ghost use Rattle.walk.specs.Source.{treesSized};
 ghost use Rattle.cursor.specs.Plan.{May};
+ghost use Rattle.cursor.specs.declared.plan.Answer.the-variants as answers;
 ghost use Rattle.cursor.specs.declared.plan.Change.the-variants as changes;
-ghost use Rattle.cursor.specs.Moves.{Applied, Moves};
+ghost use Rattle.cursor.specs.Moves.{Applied, Moves, MovesIn};
 
 pub struct Moved {
     pub answer: Answer,
@@ -70,6 +80,109 @@ fn apply(
     }
 }
 
+// ---- over the tables of a mode: row 1 was asked by whoever knows it
+
+pub fn bump_in(
+    b: &[u8],
+    trees: u32,
+    limits: Limits,
+    parts: &[u32],
+    pair: &[u32],
+    symbols: &[u32],
+    at: At,
+    numbers: &mut [u32; 256],
+    counts: &mut [u32; 256],
+    places: &mut [usize; 256],
+) -> Moved
+    requires { ⌜ Whole limits (now parts) (now pair) (now symbols) ⌝ }
+    requires { ⌜ treesSized trees ≡ true ⌝ }
+    ensures { λ r. ⌜ MovesIn (now (b .entry)) trees
+        (modeOf limits (now (parts .entry)) (now (pair .entry)) (now (symbols .entry))) bump
+        at (now (numbers .entry)) (now (counts .entry)) (now (places .entry))
+        (r .answer) (r .at) (now (numbers .exit)) (now (counts .exit)) (now (places .exit)) ⌝ }
+{
+    let plan = plan_bump(b, trees, limits, parts, pair, symbols, at, numbers, counts, places);
+    let answer = plan.answer;
+    let change = plan.change;
+    let next = apply(at, change, numbers, counts, places);
+    Moved {
+        answer: answer,
+        at: next,
+    }
+}
+
+pub fn end_in(
+    b: &[u8],
+    trees: u32,
+    limits: Limits,
+    parts: &[u32],
+    pair: &[u32],
+    symbols: &[u32],
+    at: At,
+    numbers: &mut [u32; 256],
+    counts: &mut [u32; 256],
+    places: &mut [usize; 256],
+) -> Moved
+    requires { ⌜ Whole limits (now parts) (now pair) (now symbols) ⌝ }
+    requires { ⌜ treesSized trees ≡ true ⌝ }
+    ensures { λ r. ⌜ MovesIn (now (b .entry)) trees
+        (modeOf limits (now (parts .entry)) (now (pair .entry)) (now (symbols .entry))) end
+        at (now (numbers .entry)) (now (counts .entry)) (now (places .entry))
+        (r .answer) (r .at) (now (numbers .exit)) (now (counts .exit)) (now (places .exit)) ⌝ }
+{
+    let plan = plan_end(b, trees, limits, parts, pair, symbols, at, numbers, counts, places);
+    let answer = plan.answer;
+    let change = plan.change;
+    let next = apply(at, change, numbers, counts, places);
+    Moved {
+        answer: answer,
+        at: next,
+    }
+}
+
+pub fn bump_or_end_in(
+    b: &[u8],
+    trees: u32,
+    limits: Limits,
+    parts: &[u32],
+    pair: &[u32],
+    symbols: &[u32],
+    at: At,
+    numbers: &mut [u32; 256],
+    counts: &mut [u32; 256],
+    places: &mut [usize; 256],
+) -> Moved
+    requires { ⌜ Whole limits (now parts) (now pair) (now symbols) ⌝ }
+    requires { ⌜ treesSized trees ≡ true ⌝ }
+    ensures { λ r. ⌜ MovesIn (now (b .entry)) trees
+        (modeOf limits (now (parts .entry)) (now (pair .entry)) (now (symbols .entry))) bumpOrEnd
+        at (now (numbers .entry)) (now (counts .entry)) (now (places .entry))
+        (r .answer) (r .at) (now (numbers .exit)) (now (counts .exit)) (now (places .exit)) ⌝ }
+{
+    let plan = plan_bump_or_end(b, trees, limits, parts, pair, symbols, at, numbers, counts, places);
+    let answer = plan.answer;
+    let change = plan.change;
+    let next = apply(at, change, numbers, counts, places);
+    Moved {
+        answer: answer,
+        at: next,
+    }
+}
+
+// ---- over a part table whose last two are the root's, row 1 first
+
+fn not_sized(at: At) -> Moved
+    ensures { λ r. ⌜ (r .answer ≡ answers.Refused (record { number = 1; tree = 0 })) × (r .at ≡ at) ⌝ }
+{
+    Moved {
+        answer: Answer::Refused(Refusal {
+            number: 1,
+            tree: 0,
+        }),
+        at: at,
+    }
+}
+
 pub fn bump(
     b: &[u8],
     trees: u32,
@@ -84,14 +197,12 @@ pub fn bump(
         at (now (numbers .entry)) (now (counts .entry)) (now (places .entry))
         (r .answer) (r .at) (now (numbers .exit)) (now (counts .exit)) (now (places .exit)) ⌝ }
 {
-    let plan = plan_bump(b, trees, parts, symbols, at, numbers, counts, places);
-    let answer = plan.answer;
-    let change = plan.change;
-    let next = apply(at, change, numbers, counts, places);
-    Moved {
-        answer: answer,
-        at: next,
+    if !sized(trees, parts, symbols) {
+        return not_sized(at);
     }
+    let limits = own_limits(parts.len() / PART_WORDS, symbols.len());
+    let pair = &parts[PART_WORDS * limits.limit..];
+    bump_in(b, trees, limits, parts, pair, symbols, at, numbers, counts, places)
 }
 
 pub fn end(
@@ -108,14 +219,12 @@ pub fn end(
         at (now (numbers .entry)) (now (counts .entry)) (now (places .entry))
         (r .answer) (r .at) (now (numbers .exit)) (now (counts .exit)) (now (places .exit)) ⌝ }
 {
-    let plan = plan_end(b, trees, parts, symbols, at, numbers, counts, places);
-    let answer = plan.answer;
-    let change = plan.change;
-    let next = apply(at, change, numbers, counts, places);
-    Moved {
-        answer: answer,
-        at: next,
+    if !sized(trees, parts, symbols) {
+        return not_sized(at);
     }
+    let limits = own_limits(parts.len() / PART_WORDS, symbols.len());
+    let pair = &parts[PART_WORDS * limits.limit..];
+    end_in(b, trees, limits, parts, pair, symbols, at, numbers, counts, places)
 }
 
 pub fn bump_or_end(
@@ -132,12 +241,10 @@ pub fn bump_or_end(
         at (now (numbers .entry)) (now (counts .entry)) (now (places .entry))
         (r .answer) (r .at) (now (numbers .exit)) (now (counts .exit)) (now (places .exit)) ⌝ }
 {
-    let plan = plan_bump_or_end(b, trees, parts, symbols, at, numbers, counts, places);
-    let answer = plan.answer;
-    let change = plan.change;
-    let next = apply(at, change, numbers, counts, places);
-    Moved {
-        answer: answer,
-        at: next,
+    if !sized(trees, parts, symbols) {
+        return not_sized(at);
     }
+    let limits = own_limits(parts.len() / PART_WORDS, symbols.len());
+    let pair = &parts[PART_WORDS * limits.limit..];
+    bump_or_end_in(b, trees, limits, parts, pair, symbols, at, numbers, counts, places)
 }

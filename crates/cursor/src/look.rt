@@ -1,20 +1,27 @@
 // The calls that look and change nothing, over a small state and three lent arrays.
-use crate::open::cursor_row;
+use crate::open::agrees;
 use crate::open::lies_inside;
 use crate::plan::Answer;
 use crate::state::At;
 use decode::decode::TreeRead;
-use decode::decode::decode_sized;
+use decode::decode::decode_in;
+use tree::limits::Limits;
+use tree::limits::own_limits;
 use tree::refusal::Refusal;
 use tree::types::Leaf;
 use tree::types::Punct;
 use tree::types::Spacing;
 use tree::types::Span;
 use tree::types::TokenTree;
+use walk::sizes::sized;
+use width::PART_WORDS;
 ghost use mathlib.Core.Path.{_≡_};
+ghost use mathlib.Core.Bool.{true};
 ghost use Prim.Native.Nat.{_+_, _<_};
+ghost use Rattle.tree.specs.Mode.{modeOf, Whole};
+ghost use Rattle.walk.specs.Source.{treesSized};
 ghost use Rattle.cursor.specs.declared.plan.Answer.the-variants as answers;
-ghost use Rattle.cursor.specs.Look.{blankLeaf, noLeaves, Here, Second, First, Tells, Peeks};
+ghost use Rattle.cursor.specs.Look.{blankLeaf, noLeaves, Here, Second, First, Tells, TellsIn, Peeks, PeeksIn};
 
 // A leaf ahead of the cursor.
 pub struct Ahead {
@@ -38,10 +45,12 @@ fn refused(number: u32, tree: u32) -> Answer
 }
 
 // The tree that the cursor stands at.
-fn tree_here(b: &[u8], parts: &[u32], symbols: &[u32], at: At) -> Answer
-    ensures { λ r. ⌜ Here (now (b .entry)) (now (parts .entry)) (now (symbols .entry)) at r ⌝ }
+fn tree_here(b: &[u8], limits: Limits, parts: &[u32], pair: &[u32], symbols: &[u32], at: At) -> Answer
+    requires { ⌜ Whole limits (now parts) (now pair) (now symbols) ⌝ }
+    ensures { λ r. ⌜ Here (now (b .entry))
+        (modeOf limits (now (parts .entry)) (now (pair .entry)) (now (symbols .entry))) at r ⌝ }
 {
-    let read = decode_sized(b, parts, symbols, at.number, at.place);
+    let read = decode_in(b, limits, parts, pair, symbols, at.number, at.place);
     match read {
         TreeRead::Refused(number) => refused(number, at.number),
         TreeRead::Got(here) => {
@@ -52,27 +61,31 @@ fn tree_here(b: &[u8], parts: &[u32], symbols: &[u32], at: At) -> Answer
 }
 
 // None where it lies outside the list or the last open subtree.
-pub fn token_tree<'a>(
+pub fn token_tree_in<'a>(
     b: &[u8],
     trees: u32,
+    limits: Limits,
     parts: &[u32],
+    pair: &[u32],
     symbols: &[u32],
     at: At,
     numbers: &'a [u32; 256],
     counts: &'a [u32; 256],
     places: &'a [usize; 256],
 ) -> Answer
-    ensures { λ r. ⌜ Tells (now (b .entry)) trees (now (parts .entry)) (now (symbols .entry))
+    requires { ⌜ Whole limits (now parts) (now pair) (now symbols) ⌝ }
+    requires { ⌜ treesSized trees ≡ true ⌝ }
+    ensures { λ r. ⌜ TellsIn (now (b .entry)) trees
+        (modeOf limits (now (parts .entry)) (now (pair .entry)) (now (symbols .entry)))
         at (now (numbers .entry)) (now (counts .entry)) (now (places .entry)) r ⌝ }
 {
-    let row = cursor_row(b, trees, parts, symbols, at, numbers, counts, places);
-    if row != 0 {
-        return refused(row, 0);
+    if !agrees(b, trees, at, numbers, counts, places) {
+        return refused(10, 0);
     }
     if !lies_inside(trees, at, 0, numbers, counts) {
         return Answer::None;
     }
-    tree_here(b, parts, symbols, at)
+    tree_here(b, limits, parts, pair, symbols, at)
 }
 
 // ---- two leaves
@@ -109,16 +122,20 @@ fn no_leaves(otherwise: Answer) -> TwoLeaves
 // The second leaf, behind the tree of this number.
 fn second(
     b: &[u8],
+    limits: Limits,
     parts: &[u32],
+    pair: &[u32],
     symbols: &[u32],
     number: u32,
     place: usize,
     near: Leaf,
 ) -> TwoLeaves
+    requires { ⌜ Whole limits (now parts) (now pair) (now symbols) ⌝ }
     requires { ⌜ number + 1 < 4294967296 ⌝ }
-    ensures { λ r. ⌜ Second (now (b .entry)) (now (parts .entry)) (now (symbols .entry)) number place near r ⌝ }
+    ensures { λ r. ⌜ Second (now (b .entry))
+        (modeOf limits (now (parts .entry)) (now (pair .entry)) (now (symbols .entry))) number place near r ⌝ }
 {
-    let read = decode_sized(b, parts, symbols, number + 1, place);
+    let read = decode_in(b, limits, parts, pair, symbols, number + 1, place);
     match read {
         TreeRead::Refused(refusal) => no_leaves(refused(refusal, number + 1)),
         TreeRead::Got(here) => {
@@ -137,11 +154,13 @@ fn second(
 }
 
 // If the first is no leaf, the second is not read.
-fn first(b: &[u8], parts: &[u32], symbols: &[u32], at: At) -> TwoLeaves
+fn first(b: &[u8], limits: Limits, parts: &[u32], pair: &[u32], symbols: &[u32], at: At) -> TwoLeaves
+    requires { ⌜ Whole limits (now parts) (now pair) (now symbols) ⌝ }
     requires { ⌜ at .number + 1 < 4294967296 ⌝ }
-    ensures { λ r. ⌜ First (now (b .entry)) (now (parts .entry)) (now (symbols .entry)) at r ⌝ }
+    ensures { λ r. ⌜ First (now (b .entry))
+        (modeOf limits (now (parts .entry)) (now (pair .entry)) (now (symbols .entry))) at r ⌝ }
 {
-    let read = decode_sized(b, parts, symbols, at.number, at.place);
+    let read = decode_in(b, limits, parts, pair, symbols, at.number, at.place);
     match read {
         TreeRead::Refused(number) => no_leaves(refused(number, at.number)),
         TreeRead::Got(here) => {
@@ -149,12 +168,62 @@ fn first(b: &[u8], parts: &[u32], symbols: &[u32], at: At) -> TwoLeaves
             let TokenTree::Leaf(near) = tree else {
                 return no_leaves(Answer::None);
             };
-            second(b, parts, symbols, at.number, here.next, near)
+            second(b, limits, parts, pair, symbols, at.number, here.next, near)
         }
     }
 }
 
 // None where one of the two lies outside the list or the last open subtree.
+pub fn peek_two_leaves_in<'a>(
+    b: &[u8],
+    trees: u32,
+    limits: Limits,
+    parts: &[u32],
+    pair: &[u32],
+    symbols: &[u32],
+    at: At,
+    numbers: &'a [u32; 256],
+    counts: &'a [u32; 256],
+    places: &'a [usize; 256],
+) -> TwoLeaves
+    requires { ⌜ Whole limits (now parts) (now pair) (now symbols) ⌝ }
+    requires { ⌜ treesSized trees ≡ true ⌝ }
+    ensures { λ r. ⌜ PeeksIn (now (b .entry)) trees
+        (modeOf limits (now (parts .entry)) (now (pair .entry)) (now (symbols .entry)))
+        at (now (numbers .entry)) (now (counts .entry)) (now (places .entry)) r ⌝ }
+{
+    if !agrees(b, trees, at, numbers, counts, places) {
+        return no_leaves(refused(10, 0));
+    }
+    if !lies_inside(trees, at, 1, numbers, counts) {
+        return no_leaves(Answer::None);
+    }
+    first(b, limits, parts, pair, symbols, at)
+}
+
+// ---- over a part table whose last two are the root's, row 1 first
+
+pub fn token_tree<'a>(
+    b: &[u8],
+    trees: u32,
+    parts: &[u32],
+    symbols: &[u32],
+    at: At,
+    numbers: &'a [u32; 256],
+    counts: &'a [u32; 256],
+    places: &'a [usize; 256],
+) -> Answer
+    ensures { λ r. ⌜ Tells (now (b .entry)) trees (now (parts .entry)) (now (symbols .entry))
+        at (now (numbers .entry)) (now (counts .entry)) (now (places .entry)) r ⌝ }
+{
+    if !sized(trees, parts, symbols) {
+        return refused(1, 0);
+    }
+    let limits = own_limits(parts.len() / PART_WORDS, symbols.len());
+    let pair = &parts[PART_WORDS * limits.limit..];
+    token_tree_in(b, trees, limits, parts, pair, symbols, at, numbers, counts, places)
+}
+
 pub fn peek_two_leaves<'a>(
     b: &[u8],
     trees: u32,
@@ -168,12 +237,10 @@ pub fn peek_two_leaves<'a>(
     ensures { λ r. ⌜ Peeks (now (b .entry)) trees (now (parts .entry)) (now (symbols .entry))
         at (now (numbers .entry)) (now (counts .entry)) (now (places .entry)) r ⌝ }
 {
-    let row = cursor_row(b, trees, parts, symbols, at, numbers, counts, places);
-    if row != 0 {
-        return no_leaves(refused(row, 0));
+    if !sized(trees, parts, symbols) {
+        return no_leaves(refused(1, 0));
     }
-    if !lies_inside(trees, at, 1, numbers, counts) {
-        return no_leaves(Answer::None);
-    }
-    first(b, parts, symbols, at)
+    let limits = own_limits(parts.len() / PART_WORDS, symbols.len());
+    let pair = &parts[PART_WORDS * limits.limit..];
+    peek_two_leaves_in(b, trees, limits, parts, pair, symbols, at, numbers, counts, places)
 }

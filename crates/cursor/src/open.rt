@@ -3,12 +3,11 @@
 // whether they nest.
 use crate::state::At;
 use crate::state::MOST_OPEN;
-use walk::sizes::sized;
 ghost use mathlib.Core.Path.{_≡_};
 ghost use Prim.Native.Nat.{_+_, _<_, _≤_};
+ghost use lib.ListN.{length};
 ghost use Rattle.format.specs.Cursor.{nestedIn};
-ghost use Rattle.walk.specs.Source.{treeReader};
-ghost use Rattle.cursor.specs.Open.{opened, closes, inside, cursorOf, cursorRow};
+ghost use Rattle.cursor.specs.Open.{opened, closes, inside, cursorOf, agreed};
 
 fn wide(n: u32) -> u64
     ensures { λ r. ⌜ (r ≡ n) × (r < 4294967296) ⌝ }
@@ -60,36 +59,31 @@ fn nested<'a>(
     true
 }
 
-// Row 1 or 10, or 0.
-pub(crate) fn cursor_row<'a>(
+// Whether row 10 is silent.
+pub(crate) fn agrees<'a>(
     b: &[u8],
     trees: u32,
-    parts: &[u32],
-    symbols: &[u32],
     at: At,
     numbers: &'a [u32; 256],
     counts: &'a [u32; 256],
     places: &'a [usize; 256],
-) -> u32
-    ensures { λ r. ⌜ r ≡ cursorRow (treeReader (now (b .entry)) trees (now (parts .entry)) (now (symbols .entry)))
+) -> bool
+    ensures { λ r. ⌜ r ≡ agreed trees (length (now (b .entry)))
         (cursorOf at (now (numbers .entry)) (now (counts .entry)) (now (places .entry))) ⌝ }
 {
-    if !sized(trees, parts, symbols) {
-        return 1;
-    }
     if trees < at.number {
-        return 10;
+        return false;
     }
     if b.len() < at.place {
-        return 10;
+        return false;
     }
     if MOST_OPEN < at.depth {
-        return 10;
+        return false;
     }
     if !nested(at, numbers, counts, places) {
-        return 10;
+        return false;
     }
-    0
+    true
 }
 
 // Whether all that the last open subtree holds lies before the cursor.

@@ -1,12 +1,13 @@
 // What each call answers, and how it changes the cursor. The arrays are read here and not written.
+use crate::open::agrees;
 use crate::open::closes_last;
-use crate::open::cursor_row;
 use crate::state::At;
 use crate::state::MOST_OPEN;
 use decode::decode::TreeAt;
 use decode::decode::TreeRead;
-use decode::decode::decode_sized;
+use decode::decode::decode_in;
 use decode::judge::tree_at;
+use tree::limits::Limits;
 use tree::raw::Descendants;
 use tree::raw::RawAt;
 use tree::raw::RawRead;
@@ -14,8 +15,11 @@ use tree::raw::RawTree;
 use tree::refusal::Refusal;
 use tree::types::TokenTree;
 ghost use mathlib.Core.Path.{_≡_};
+ghost use mathlib.Core.Bool.{true};
 ghost use Prim.Native.Nat.{_+_, _<_, _≤_};
 ghost use Rattle.format.specs.Cursor.{bump, end, bumpOrEnd};
+ghost use Rattle.tree.specs.Mode.{modeOf, Whole};
+ghost use Rattle.walk.specs.Source.{treesSized};
 ghost use Rattle.cursor.specs.Plan.{refusal, doing, Enters, GoesOn, Shuts, ShutsLast, Planned};
 
 pub enum Answer {
@@ -94,13 +98,23 @@ fn enter(at: At, here: RawAt) -> Plan
 }
 
 // To the next tree, whose entries are not looked up. At the end nothing changes.
-fn go_on(b: &[u8], trees: u32, parts: &[u32], symbols: &[u32], at: At) -> Plan
-    ensures { λ r. ⌜ GoesOn (now (b .entry)) trees (now (parts .entry)) (now (symbols .entry)) at r ⌝ }
+fn go_on(
+    b: &[u8],
+    trees: u32,
+    limits: Limits,
+    parts: &[u32],
+    pair: &[u32],
+    symbols: &[u32],
+    at: At,
+) -> Plan
+    requires { ⌜ Whole limits (now parts) (now pair) (now symbols) ⌝ }
+    ensures { λ r. ⌜ GoesOn (now (b .entry)) trees
+        (modeOf limits (now (parts .entry)) (now (pair .entry)) (now (symbols .entry))) at r ⌝ }
 {
     if trees <= at.number {
         return done(Change::Stay);
     }
-    let read = tree_at(b, parts.len() / 3, symbols.len(), at.number, at.place);
+    let read = tree_at(b, limits, at.number, at.place);
     match read {
         RawRead::Bad(number) => refuse(number, at.number),
         RawRead::Got(here) => enter(at, here),
@@ -130,20 +144,24 @@ fn shut(here: TreeAt, count: u32) -> Plan
 // The last open subtree, read again at its place and shut.
 fn shut_last<'a>(
     b: &[u8],
+    limits: Limits,
     parts: &[u32],
+    pair: &[u32],
     symbols: &[u32],
     at: At,
     numbers: &'a [u32; 256],
     counts: &'a [u32; 256],
     places: &'a [usize; 256],
 ) -> Plan
+    requires { ⌜ Whole limits (now parts) (now pair) (now symbols) ⌝ }
     requires { ⌜ (0 < at .depth) × (at .depth ≤ 256) ⌝ }
-    ensures { λ r. ⌜ ShutsLast (now (b .entry)) (now (parts .entry)) (now (symbols .entry))
+    ensures { λ r. ⌜ ShutsLast (now (b .entry))
+        (modeOf limits (now (parts .entry)) (now (pair .entry)) (now (symbols .entry)))
         at (now (numbers .entry)) (now (counts .entry)) (now (places .entry)) r ⌝ }
 {
     let last = at.depth - 1;
     let number = numbers[last];
-    let read = decode_sized(b, parts, symbols, number, places[last]);
+    let read = decode_in(b, limits, parts, pair, symbols, number, places[last]);
     match read {
         TreeRead::Refused(refused) => refuse(refused, number),
         TreeRead::Got(here) => shut(here, counts[last]),
@@ -154,70 +172,82 @@ fn shut_last<'a>(
 pub(crate) fn plan_bump<'a>(
     b: &[u8],
     trees: u32,
+    limits: Limits,
     parts: &[u32],
+    pair: &[u32],
     symbols: &[u32],
     at: At,
     numbers: &'a [u32; 256],
     counts: &'a [u32; 256],
     places: &'a [usize; 256],
 ) -> Plan
-    ensures { λ r. ⌜ Planned (now (b .entry)) trees (now (parts .entry)) (now (symbols .entry)) bump
+    requires { ⌜ Whole limits (now parts) (now pair) (now symbols) ⌝ }
+    requires { ⌜ treesSized trees ≡ true ⌝ }
+    ensures { λ r. ⌜ Planned (now (b .entry)) trees
+        (modeOf limits (now (parts .entry)) (now (pair .entry)) (now (symbols .entry))) bump
         at (now (numbers .entry)) (now (counts .entry)) (now (places .entry)) r ⌝ }
 {
-    let row = cursor_row(b, trees, parts, symbols, at, numbers, counts, places);
-    if row != 0 {
-        return refuse(row, 0);
+    if !agrees(b, trees, at, numbers, counts, places) {
+        return refuse(10, 0);
     }
     if closes_last(at, numbers, counts) {
         return refuse(10, 0);
     }
-    go_on(b, trees, parts, symbols, at)
+    go_on(b, trees, limits, parts, pair, symbols, at)
 }
 
 // `end`: not closing is 10.
 pub(crate) fn plan_end<'a>(
     b: &[u8],
     trees: u32,
+    limits: Limits,
     parts: &[u32],
+    pair: &[u32],
     symbols: &[u32],
     at: At,
     numbers: &'a [u32; 256],
     counts: &'a [u32; 256],
     places: &'a [usize; 256],
 ) -> Plan
-    ensures { λ r. ⌜ Planned (now (b .entry)) trees (now (parts .entry)) (now (symbols .entry)) end
+    requires { ⌜ Whole limits (now parts) (now pair) (now symbols) ⌝ }
+    requires { ⌜ treesSized trees ≡ true ⌝ }
+    ensures { λ r. ⌜ Planned (now (b .entry)) trees
+        (modeOf limits (now (parts .entry)) (now (pair .entry)) (now (symbols .entry))) end
         at (now (numbers .entry)) (now (counts .entry)) (now (places .entry)) r ⌝ }
 {
-    let row = cursor_row(b, trees, parts, symbols, at, numbers, counts, places);
-    if row != 0 {
-        return refuse(row, 0);
+    if !agrees(b, trees, at, numbers, counts, places) {
+        return refuse(10, 0);
     }
     if !closes_last(at, numbers, counts) {
         return refuse(10, 0);
     }
-    shut_last(b, parts, symbols, at, numbers, counts, places)
+    shut_last(b, limits, parts, pair, symbols, at, numbers, counts, places)
 }
 
 // `bump_or_end`: closing shuts, and nothing is read.
 pub(crate) fn plan_bump_or_end<'a>(
     b: &[u8],
     trees: u32,
+    limits: Limits,
     parts: &[u32],
+    pair: &[u32],
     symbols: &[u32],
     at: At,
     numbers: &'a [u32; 256],
     counts: &'a [u32; 256],
     places: &'a [usize; 256],
 ) -> Plan
-    ensures { λ r. ⌜ Planned (now (b .entry)) trees (now (parts .entry)) (now (symbols .entry)) bumpOrEnd
+    requires { ⌜ Whole limits (now parts) (now pair) (now symbols) ⌝ }
+    requires { ⌜ treesSized trees ≡ true ⌝ }
+    ensures { λ r. ⌜ Planned (now (b .entry)) trees
+        (modeOf limits (now (parts .entry)) (now (pair .entry)) (now (symbols .entry))) bumpOrEnd
         at (now (numbers .entry)) (now (counts .entry)) (now (places .entry)) r ⌝ }
 {
-    let row = cursor_row(b, trees, parts, symbols, at, numbers, counts, places);
-    if row != 0 {
-        return refuse(row, 0);
+    if !agrees(b, trees, at, numbers, counts, places) {
+        return refuse(10, 0);
     }
     if closes_last(at, numbers, counts) {
         return done(Change::Shut);
     }
-    go_on(b, trees, parts, symbols, at)
+    go_on(b, trees, limits, parts, pair, symbols, at)
 }

@@ -39,7 +39,7 @@ use Rattle.walk.specs.declared.walk.Step.{Step}
 use Rattle.walk.specs.declared.walk.Begun.{Begun}
 use Rattle.walk.specs.declared.walk.Begun.the-variants as begun
 use Rattle.tree.proofs.OwnMode.{pairOf}
-use Rattle.walk.proofs.SizesReturns.{sizes-trees, sizes-whole, sizes-mode}
+use Rattle.walk.proofs.SizesReturns.{mode-sized, sizes-trees, sizes-whole, sizes-mode}
 use Rattle.walk.proofs.WalkWords.{inWords, reads-decoded, walk-words}
 
 -- a tree that is read ends in the buffer
@@ -110,8 +110,7 @@ module _ (b parts pair symbols : List ℕ) (k : ℕ) (N : Limits) (w : Walk) (s 
   R = treeReaderIn b k M
 
   all-sized : R .sized ≡ true
-  unfolding treeReaderIn
-  all-sized = simp s
+  all-sized = mode-sized b k N parts pair symbols s
 
   pub begin-10 : not x ≡ true → Begins b k M w (begun.Refused (record { number = 10; tree = 0 }))
   unfolding Begins treeReaderIn

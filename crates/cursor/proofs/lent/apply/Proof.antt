@@ -3,47 +3,36 @@ use Rattle.cursor.proofs.MovesReturns.{apply-cases}
 use Rattle.cursor.proofs.lent.apply.Statement.{statement}
 use Rattle.cursor.proofs.lent.apply.Tie as tie
 
--- src/lent.rt:54:25
 enum-told : tie.Need-enum-told
 enum-told c = search (needs, apply-cases)
 
--- src/lent.rt:55:20
 enum-known-change : tie.Need-enum-known-change
 enum-known-change c = search (needs, apply-cases)
 
--- src/lent.rt:57:21
 add-t9 : tie.Need-add-t9
 add-t9 c = search (needs, apply-cases)
 
--- src/lent.rt:63:20
 enum-told-2 : tie.Need-enum-told-2
 enum-told-2 c = search (needs, apply-cases)
 
--- src/lent.rt:63:20
 sub-t10 : tie.Need-sub-t10
 sub-t10 c = search (needs, apply-cases)
 
--- src/lent.rt:65:22
 enum-known-change-2 : tie.Need-enum-known-change-2
 enum-known-change-2 c = search (needs, apply-cases)
 
--- src/lent.rt:65:34
 enter-requires : tie.Need-enter-requires
 enter-requires c κs = search (needs, apply-cases)
 
--- src/lent.rt:43:1
 returns : tie.Need-returns
 returns c = search (needs, apply-cases)
 
--- src/lent.rt:43:1
 returns-2 : tie.Need-returns-2
 returns-2 c = search (needs, apply-cases)
 
--- src/lent.rt:43:1
 returns-3 : tie.Need-returns-3
 returns-3 c = search (needs, apply-cases)
 
--- src/lent.rt:43:1
 returns-4 : tie.Need-returns-4
 returns-4 c = search (needs, apply-cases)
 

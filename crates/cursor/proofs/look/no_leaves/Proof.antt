@@ -3,11 +3,9 @@ use Rattle.cursor.proofs.LookReturns.{peeks-cases}
 use Rattle.cursor.proofs.look.no_leaves.Statement.{statement}
 use Rattle.cursor.proofs.look.no_leaves.Tie as tie
 
--- src/look.rt:99:9
 blank-requires : tie.Need-blank-requires
 blank-requires c κs = search (needs, peeks-cases)
 
--- src/look.rt:96:1
 returns : tie.Need-returns
 returns c = search (needs, peeks-cases)
 

@@ -1,54 +1,57 @@
 use borrow.Author.Needs.{needs}
-use Rattle.cursor.proofs.LookReturns.{peeks-cases}
+use Rattle.cursor.proofs.LookReturns.{look-fronts}
 use Rattle.cursor.proofs.look.peek_two_leaves.Statement.{statement}
 use Rattle.cursor.proofs.look.peek_two_leaves.Tie as tie
 
--- src/look.rt:162:9
-cursor-row-requires : tie.Need-cursor-row-requires
-cursor-row-requires c κs = search (needs, peeks-cases)
+sized-requires : tie.Need-sized-requires
+sized-requires c κs = search (needs, look-fronts)
 
--- src/look.rt:164:26
 refused-requires : tie.Need-refused-requires
-refused-requires c κs = search (needs, peeks-cases)
+refused-requires c κs = search (needs, look-fronts)
 
--- src/look.rt:164:9
 no-leaves-requires : tie.Need-no-leaves-requires
-no-leaves-requires c κs = search (needs, peeks-cases)
+no-leaves-requires c κs = search (needs, look-fronts)
 
--- src/look.rt:164:9
 returns : tie.Need-returns
-returns c = search (needs, peeks-cases)
+returns c = search (needs, look-fronts)
 
--- src/look.rt:166:9
-lies-inside-requires : tie.Need-lies-inside-requires
-lies-inside-requires c κs = search (needs, peeks-cases)
+own-limits-requires : tie.Need-own-limits-requires
+own-limits-requires c κs = search (needs, look-fronts)
 
--- src/look.rt:167:9
-no-leaves-requires-2 : tie.Need-no-leaves-requires-2
-no-leaves-requires-2 c κs = search (needs, peeks-cases)
+mul-pair : tie.Need-mul-pair
+mul-pair c = search (needs, look-fronts)
 
--- src/look.rt:167:9
+mul-pair-2 : tie.Need-mul-pair-2
+mul-pair-2 c = search (needs, look-fronts)
+
+sub-pair : tie.Need-sub-pair
+sub-pair c = search (needs, look-fronts)
+
+part-pair-start : tie.Need-part-pair-start
+part-pair-start c = search (needs, look-fronts)
+
+part-pair-end : tie.Need-part-pair-end
+part-pair-end c = search (needs, look-fronts)
+
+peek-two-leaves-in-requires : tie.Need-peek-two-leaves-in-requires
+peek-two-leaves-in-requires c κs = (search (needs, look-fronts), search (needs, look-fronts))
+
 returns-2 : tie.Need-returns-2
-returns-2 c = search (needs, peeks-cases)
-
--- src/look.rt:169:5
-first-requires : tie.Need-first-requires
-first-requires c κs = search (needs, peeks-cases)
-
--- src/look.rt:150:1
-returns-3 : tie.Need-returns-3
-returns-3 c = search (needs, peeks-cases)
+returns-2 c = search (needs, look-fronts)
 
 pub peek-two-leaves-spec : {M : Type 1} → statement M
 peek-two-leaves-spec =
     tie.close
     (tie.spec
-    cursor-row-requires
+    sized-requires
     refused-requires
     no-leaves-requires
     returns
-    lies-inside-requires
-    no-leaves-requires-2
-    returns-2
-    first-requires
-    returns-3)
+    own-limits-requires
+    mul-pair
+    mul-pair-2
+    sub-pair
+    part-pair-start
+    part-pair-end
+    peek-two-leaves-in-requires
+    returns-2)

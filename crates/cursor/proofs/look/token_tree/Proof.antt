@@ -1,44 +1,53 @@
 use borrow.Author.Needs.{needs}
-use Rattle.cursor.proofs.LookReturns.{tells-cases}
+use Rattle.cursor.proofs.LookReturns.{look-fronts}
 use Rattle.cursor.proofs.look.token_tree.Statement.{statement}
 use Rattle.cursor.proofs.look.token_tree.Tie as tie
 
--- src/look.rt:67:9
-cursor-row-requires : tie.Need-cursor-row-requires
-cursor-row-requires c κs = search (needs, tells-cases)
+sized-requires : tie.Need-sized-requires
+sized-requires c κs = search (needs, look-fronts)
 
--- src/look.rt:69:9
 refused-requires : tie.Need-refused-requires
-refused-requires c κs = search (needs, tells-cases)
+refused-requires c κs = search (needs, look-fronts)
 
--- src/look.rt:69:9
 returns : tie.Need-returns
-returns c = search (needs, tells-cases)
+returns c = search (needs, look-fronts)
 
--- src/look.rt:71:9
-lies-inside-requires : tie.Need-lies-inside-requires
-lies-inside-requires c κs = search (needs, tells-cases)
+own-limits-requires : tie.Need-own-limits-requires
+own-limits-requires c κs = search (needs, look-fronts)
 
--- src/look.rt:72:9
+mul-pair : tie.Need-mul-pair
+mul-pair c = search (needs, look-fronts)
+
+mul-pair-2 : tie.Need-mul-pair-2
+mul-pair-2 c = search (needs, look-fronts)
+
+sub-pair : tie.Need-sub-pair
+sub-pair c = search (needs, look-fronts)
+
+part-pair-start : tie.Need-part-pair-start
+part-pair-start c = search (needs, look-fronts)
+
+part-pair-end : tie.Need-part-pair-end
+part-pair-end c = search (needs, look-fronts)
+
+token-tree-in-requires : tie.Need-token-tree-in-requires
+token-tree-in-requires c κs = (search (needs, look-fronts), search (needs, look-fronts))
+
 returns-2 : tie.Need-returns-2
-returns-2 c = search (needs, tells-cases)
-
--- src/look.rt:74:5
-tree-here-requires : tie.Need-tree-here-requires
-tree-here-requires c κs = search (needs, tells-cases)
-
--- src/look.rt:55:1
-returns-3 : tie.Need-returns-3
-returns-3 c = search (needs, tells-cases)
+returns-2 c = search (needs, look-fronts)
 
 pub token-tree-spec : {M : Type 1} → statement M
 token-tree-spec =
     tie.close
     (tie.spec
-    cursor-row-requires
+    sized-requires
     refused-requires
     returns
-    lies-inside-requires
-    returns-2
-    tree-here-requires
-    returns-3)
+    own-limits-requires
+    mul-pair
+    mul-pair-2
+    sub-pair
+    part-pair-start
+    part-pair-end
+    token-tree-in-requires
+    returns-2)

@@ -3,43 +3,33 @@ use Rattle.cursor.proofs.OpenReturns.{last-cases}
 use Rattle.cursor.proofs.open.closes_last.Statement.{statement}
 use Rattle.cursor.proofs.open.closes_last.Tie as tie
 
--- src/open.rt:104:9
 returns : tie.Need-returns
 returns c = search (needs, last-cases)
 
--- src/open.rt:106:16
 sub-last : tie.Need-sub-last
 sub-last c = search (needs, last-cases)
 
--- src/open.rt:107:22
 mul-end-of : tie.Need-mul-end-of
 mul-end-of c = search (needs, last-cases)
 
--- src/open.rt:107:22
 element-copy-out-end-of : tie.Need-element-copy-out-end-of
 element-copy-out-end-of c = search (needs, last-cases)
 
--- src/open.rt:107:37
 mul-end-of-2 : tie.Need-mul-end-of-2
 mul-end-of-2 c = search (needs, last-cases)
 
--- src/open.rt:107:37
 element-copy-out-end-of-2 : tie.Need-element-copy-out-end-of-2
 element-copy-out-end-of-2 c = search (needs, last-cases)
 
--- src/open.rt:107:9
 end-of-requires : tie.Need-end-of-requires
 end-of-requires c κs = search (needs, last-cases)
 
--- src/open.rt:108:8
 wide-requires : tie.Need-wide-requires
 wide-requires c κs = search (needs, last-cases)
 
--- src/open.rt:109:9
 returns-2 : tie.Need-returns-2
 returns-2 c = search (needs, last-cases)
 
--- src/open.rt:99:1
 returns-3 : tie.Need-returns-3
 returns-3 c = search (needs, last-cases)
 

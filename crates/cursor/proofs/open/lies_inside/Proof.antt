@@ -3,59 +3,45 @@ use Rattle.cursor.proofs.OpenReturns.{last-cases}
 use Rattle.cursor.proofs.open.lies_inside.Statement.{statement}
 use Rattle.cursor.proofs.open.lies_inside.Tie as tie
 
--- src/open.rt:125:13
 wide-requires : tie.Need-wide-requires
 wide-requires c κs = search (needs, last-cases)
 
--- src/open.rt:125:31
 wide-requires-2 : tie.Need-wide-requires-2
 wide-requires-2 c κs = search (needs, last-cases)
 
--- src/open.rt:125:13
 add-n : tie.Need-add-n
 add-n c = search (needs, last-cases)
 
--- src/open.rt:126:8
 wide-requires-3 : tie.Need-wide-requires-3
 wide-requires-3 c κs = search (needs, last-cases)
 
--- src/open.rt:127:9
 returns : tie.Need-returns
 returns c = search (needs, last-cases)
 
--- src/open.rt:130:9
 returns-2 : tie.Need-returns-2
 returns-2 c = search (needs, last-cases)
 
--- src/open.rt:132:16
 sub-last : tie.Need-sub-last
 sub-last c = search (needs, last-cases)
 
--- src/open.rt:133:22
 mul-end-of : tie.Need-mul-end-of
 mul-end-of c = search (needs, last-cases)
 
--- src/open.rt:133:22
 element-copy-out-end-of : tie.Need-element-copy-out-end-of
 element-copy-out-end-of c = search (needs, last-cases)
 
--- src/open.rt:133:37
 mul-end-of-2 : tie.Need-mul-end-of-2
 mul-end-of-2 c = search (needs, last-cases)
 
--- src/open.rt:133:37
 element-copy-out-end-of-2 : tie.Need-element-copy-out-end-of-2
 element-copy-out-end-of-2 c = search (needs, last-cases)
 
--- src/open.rt:133:9
 end-of-requires : tie.Need-end-of-requires
 end-of-requires c κs = search (needs, last-cases)
 
--- src/open.rt:135:9
 returns-3 : tie.Need-returns-3
 returns-3 c = search (needs, last-cases)
 
--- src/open.rt:115:1
 returns-4 : tie.Need-returns-4
 returns-4 c = search (needs, last-cases)
 

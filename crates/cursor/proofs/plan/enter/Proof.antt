@@ -2,64 +2,46 @@ use borrow.Author.Needs.{needs}
 use Rattle.cursor.proofs.PlanReturns.{enter-cases}
 use Rattle.cursor.proofs.plan.enter.Statement.{statement}
 use Rattle.cursor.proofs.plan.enter.Tie as tie
-use Rattle.cursor.proofs.plan.enter.Reads as reads
-use Rattle.cursor.proofs.plan.enter.Lts as lts
-use Rattle.cursor.proofs.plan.done.Reads as done-reads
-use Rattle.cursor.proofs.plan.refuse.Reads as refuse-reads
 
--- src/plan.rt:79:35
 enum-told : tie.Need-enum-told
 enum-told c = search (needs, enter-cases)
 
--- src/plan.rt:79:30
 done-requires : tie.Need-done-requires
 done-requires c κs = search (needs, enter-cases)
 
--- src/plan.rt:80:35
 enum-told-2 : tie.Need-enum-told-2
 enum-told-2 c = search (needs, enter-cases)
 
--- src/plan.rt:80:30
 done-requires-2 : tie.Need-done-requires-2
 done-requires-2 c κs = search (needs, enter-cases)
 
--- src/plan.rt:81:37
 enum-told-3 : tie.Need-enum-told-3
 enum-told-3 c = search (needs, enter-cases)
 
--- src/plan.rt:81:32
 done-requires-3 : tie.Need-done-requires-3
 done-requires-3 c κs = search (needs, enter-cases)
 
--- src/plan.rt:82:26
 enum-known-tree : tie.Need-enum-known-tree
 enum-known-tree c = search (needs, enter-cases)
 
--- src/plan.rt:84:17
 refuse-requires : tie.Need-refuse-requires
 refuse-requires c κs = search (needs, enter-cases)
 
--- src/plan.rt:84:17
 returns : tie.Need-returns
 returns c = search (needs, enter-cases)
 
--- src/plan.rt:91:13
 done-requires-4 : tie.Need-done-requires-4
 done-requires-4 c κs = search (needs, enter-cases)
 
--- src/plan.rt:73:1
 returns-2 : tie.Need-returns-2
 returns-2 c = search (needs, enter-cases)
 
--- src/plan.rt:73:1
 returns-3 : tie.Need-returns-3
 returns-3 c = search (needs, enter-cases)
 
--- src/plan.rt:73:1
 returns-4 : tie.Need-returns-4
 returns-4 c = search (needs, enter-cases)
 
--- src/plan.rt:73:1
 returns-5 : tie.Need-returns-5
 returns-5 c = search (needs, enter-cases)
 

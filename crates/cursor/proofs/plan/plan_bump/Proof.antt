@@ -3,35 +3,27 @@ use Rattle.cursor.proofs.PlanReturns.{plan-cases}
 use Rattle.cursor.proofs.plan.plan_bump.Statement.{statement}
 use Rattle.cursor.proofs.plan.plan_bump.Tie as tie
 
--- src/plan.rt:159:9
-cursor-row-requires : tie.Need-cursor-row-requires
-cursor-row-requires c κs = search (needs, plan-cases)
+agrees-requires : tie.Need-agrees-requires
+agrees-requires c κs = search (needs, plan-cases)
 
--- src/plan.rt:161:9
 refuse-requires : tie.Need-refuse-requires
 refuse-requires c κs = search (needs, plan-cases)
 
--- src/plan.rt:161:9
 returns : tie.Need-returns
 returns c = search (needs, plan-cases)
 
--- src/plan.rt:163:8
 closes-last-requires : tie.Need-closes-last-requires
 closes-last-requires c κs = search (needs, plan-cases)
 
--- src/plan.rt:164:9
 refuse-requires-2 : tie.Need-refuse-requires-2
 refuse-requires-2 c κs = search (needs, plan-cases)
 
--- src/plan.rt:164:9
 returns-2 : tie.Need-returns-2
 returns-2 c = search (needs, plan-cases)
 
--- src/plan.rt:166:5
 go-on-requires : tie.Need-go-on-requires
 go-on-requires c κs = search (needs, plan-cases)
 
--- src/plan.rt:147:1
 returns-3 : tie.Need-returns-3
 returns-3 c = search (needs, plan-cases)
 
@@ -39,7 +31,7 @@ pub plan-bump-spec : {M : Type 1} → statement M
 plan-bump-spec =
     tie.close
     (tie.spec
-    cursor-row-requires
+    agrees-requires
     refuse-requires
     returns
     closes-last-requires

@@ -3,35 +3,27 @@ use Rattle.cursor.proofs.PlanReturns.{plan-cases}
 use Rattle.cursor.proofs.plan.plan_bump_or_end.Statement.{statement}
 use Rattle.cursor.proofs.plan.plan_bump_or_end.Tie as tie
 
--- src/plan.rt:205:9
-cursor-row-requires : tie.Need-cursor-row-requires
-cursor-row-requires c κs = search (needs, plan-cases)
+agrees-requires : tie.Need-agrees-requires
+agrees-requires c κs = search (needs, plan-cases)
 
--- src/plan.rt:207:9
 refuse-requires : tie.Need-refuse-requires
 refuse-requires c κs = search (needs, plan-cases)
 
--- src/plan.rt:207:9
 returns : tie.Need-returns
 returns c = search (needs, plan-cases)
 
--- src/plan.rt:209:8
 closes-last-requires : tie.Need-closes-last-requires
 closes-last-requires c κs = search (needs, plan-cases)
 
--- src/plan.rt:210:9
 done-requires : tie.Need-done-requires
 done-requires c κs = search (needs, plan-cases)
 
--- src/plan.rt:210:9
 returns-2 : tie.Need-returns-2
 returns-2 c = search (needs, plan-cases)
 
--- src/plan.rt:212:5
 go-on-requires : tie.Need-go-on-requires
 go-on-requires c κs = search (needs, plan-cases)
 
--- src/plan.rt:193:1
 returns-3 : tie.Need-returns-3
 returns-3 c = search (needs, plan-cases)
 
@@ -39,7 +31,7 @@ pub plan-bump-or-end-spec : {M : Type 1} → statement M
 plan-bump-or-end-spec =
     tie.close
     (tie.spec
-    cursor-row-requires
+    agrees-requires
     refuse-requires
     returns
     closes-last-requires

@@ -3,35 +3,27 @@ use Rattle.cursor.proofs.PlanReturns.{plan-cases}
 use Rattle.cursor.proofs.plan.plan_end.Statement.{statement}
 use Rattle.cursor.proofs.plan.plan_end.Tie as tie
 
--- src/plan.rt:182:9
-cursor-row-requires : tie.Need-cursor-row-requires
-cursor-row-requires c κs = search (needs, plan-cases)
+agrees-requires : tie.Need-agrees-requires
+agrees-requires c κs = search (needs, plan-cases)
 
--- src/plan.rt:184:9
 refuse-requires : tie.Need-refuse-requires
 refuse-requires c κs = search (needs, plan-cases)
 
--- src/plan.rt:184:9
 returns : tie.Need-returns
 returns c = search (needs, plan-cases)
 
--- src/plan.rt:186:9
 closes-last-requires : tie.Need-closes-last-requires
 closes-last-requires c κs = search (needs, plan-cases)
 
--- src/plan.rt:187:9
 refuse-requires-2 : tie.Need-refuse-requires-2
 refuse-requires-2 c κs = search (needs, plan-cases)
 
--- src/plan.rt:187:9
 returns-2 : tie.Need-returns-2
 returns-2 c = search (needs, plan-cases)
 
--- src/plan.rt:189:5
 shut-last-requires : tie.Need-shut-last-requires
-shut-last-requires c κs = search (needs, plan-cases)
+shut-last-requires c κs = (search needs, search (needs, plan-cases))
 
--- src/plan.rt:170:1
 returns-3 : tie.Need-returns-3
 returns-3 c = search (needs, plan-cases)
 
@@ -39,7 +31,7 @@ pub plan-end-spec : {M : Type 1} → statement M
 plan-end-spec =
     tie.close
     (tie.spec
-    cursor-row-requires
+    agrees-requires
     refuse-requires
     returns
     closes-last-requires

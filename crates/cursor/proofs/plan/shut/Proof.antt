@@ -3,31 +3,24 @@ use Rattle.cursor.proofs.PlanReturns.{shut-cases}
 use Rattle.cursor.proofs.plan.shut.Statement.{statement}
 use Rattle.cursor.proofs.plan.shut.Tie as tie
 
--- src/plan.rt:110:31
 enum-told : tie.Need-enum-told
 enum-told c = search (needs, shut-cases)
 
--- src/plan.rt:110:31
 refuse-requires : tie.Need-refuse-requires
 refuse-requires c κs = search (needs, shut-cases)
 
--- src/plan.rt:111:28
 enum-known-tree : tie.Need-enum-known-tree
 enum-known-tree c = search (needs, shut-cases)
 
--- src/plan.rt:114:17
 refuse-requires-2 : tie.Need-refuse-requires-2
 refuse-requires-2 c κs = search (needs, shut-cases)
 
--- src/plan.rt:114:17
 returns : tie.Need-returns
 returns c = search (needs, shut-cases)
 
--- src/plan.rt:105:1
 returns-2 : tie.Need-returns-2
 returns-2 c = search (needs, shut-cases)
 
--- src/plan.rt:105:1
 returns-3 : tie.Need-returns-3
 returns-3 c = search (needs, shut-cases)
 

@@ -3,15 +3,12 @@ use Rattle.cursor.proofs.LookReturns.{value-looks}
 use Rattle.cursor.proofs.cursor.Cursor.peek_two_leaves.Statement.{statement}
 use Rattle.cursor.proofs.cursor.Cursor.peek_two_leaves.Tie as tie
 
--- src/cursor.rt:146:51
 at-requires : tie.Need-at-requires
 at-requires c κs = search (needs, value-looks)
 
--- src/cursor.rt:146:9
 peek-two-leaves-requires : tie.Need-peek-two-leaves-requires
 peek-two-leaves-requires c κs = search (needs, value-looks)
 
--- src/cursor.rt:143:5
 returns : tie.Need-returns
 returns c = search (needs, value-looks)
 
