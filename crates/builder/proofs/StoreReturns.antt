@@ -7,7 +7,7 @@ use native.Mathlib.Numerals.{add-one}
 use lib.ListN.{length, getD, set, take, length-set}
 use lib.Seq.{take-suc, take-all, length-take-le}
 use Rattle.format.specs.Word.{put}
-use Rattle.format.specs.Width.{spanSize, closeAt, treeSize}
+use Rattle.format.specs.Width.{closeAt, treeSize}
 use Rattle.format.specs.Part.{WordSpan, spanList}
 use Rattle.format.specs.WordList.{listCount}
 use Rattle.format.proofs.Kept.{kept}
@@ -44,10 +44,7 @@ module _ (l : List ℕ) (m n : ℕ) (h : m < listCount l) where
   close-one = omega arith
 
   module _ (l₁ : List ℕ) (e : l₁ ≡ put l (treeSize * m + 1) (n ∷ [])) where
-    pub close-room : length l₁ ≡ length l → treeSize * m + closeAt + spanSize ≤ length l₁
-    close-room k = omega arith
+    pub close-put : (s : WordSpan) (ws : List ℕ) → ws ≡ spanList s → (l₂ : List ℕ) → l₂ ≡ put l₁ (treeSize * m + closeAt) ws → l₂ ≡ closedAt l m n s
+    close-put s ws g l₂ f = f ∙ rw (e, g)
 
-    pub close-put : (s : WordSpan) (l₂ : List ℕ) → l₂ ≡ put l₁ (treeSize * m + closeAt) (spanList s) → l₂ ≡ closedAt l m n s
-    close-put s l₂ f = f ∙ rw e
-
-pub ruleset close-cases = (close-one, close-room, close-put, kept)
+pub ruleset close-cases = (close-one, close-put, kept)

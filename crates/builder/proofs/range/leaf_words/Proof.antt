@@ -12,6 +12,9 @@ leaf-fits-requires : tie.Need-leaf-fits-requires
 leaf-fits-requires c κs = search (needs, words-cases)
 
 -- src/range.rt:83:9
+array-write-none : tie.Need-array-write-none
+array-write-none c = search (needs, words-cases)
+
 returns : tie.Need-returns
 returns c = search (needs, words-cases)
 
@@ -24,4 +27,5 @@ returns-2 : tie.Need-returns-2
 returns-2 c = search (needs, words-cases)
 
 pub leaf-words-spec : {M : Type 1} → statement M
-leaf-words-spec = tie.close (tie.spec leaf-fits-requires returns tree-words-requires returns-2)
+leaf-words-spec =
+    tie.close (tie.spec leaf-fits-requires array-write-none returns tree-words-requires returns-2)

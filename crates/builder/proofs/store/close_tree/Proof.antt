@@ -23,6 +23,10 @@ put-words-requires : tie.Need-put-words-requires
 put-words-requires c κs = search (needs, close-cases)
 
 -- src/store.rt:38:21
+span-words-requires : tie.Need-span-words-requires
+span-words-requires c κs = search (needs, close-cases)
+
+-- src/store.rt:38:21
 mul-put-words-2 : tie.Need-mul-put-words-2
 mul-put-words-2 c = search (needs, close-cases)
 
@@ -54,6 +58,7 @@ close-tree-spec =
     add-put-words
     slice-aggregate-put-words
     put-words-requires
+    span-words-requires
     mul-put-words-2
     add-put-words-2
     slice-aggregate-put-words-2
