@@ -6,12 +6,17 @@ use lib.ListN.{length}
 use lib.Dec.{leb, eqb}
 use Rattle.format.specs.Width.{partSize}
 use Rattle.format.specs.Tables.{Mode}
+use Rattle.walk.specs.Source.{treesSized}
 
 -- row 1: no more parts and symbols than document 01 allows, and the runs have what is stated
-abbrev pub sizedApart : ℕ → List ℕ → List ℕ → List ℕ → Bool
+unfoldable pub sizedApart : ℕ → List ℕ → List ℕ → List ℕ → Bool
 sizedApart count parts pair symbols =
     leb count 2097152 && leb (partSize * count) (length parts) && eqb (length pair) (2 * partSize) && leb (length symbols) 1048576
 
 abbrev pub apartMode : ℕ → ℕ → List ℕ → List ℕ → List ℕ → Mode
 apartMode count root parts pair symbols =
     record { sized = sizedApart count parts pair symbols; limit = count; root = root; parts = parts; pair = pair; symbols = symbols }
+
+-- … and of the tree count
+unfoldable pub sizesApart : ℕ → ℕ → List ℕ → List ℕ → List ℕ → Bool
+sizesApart trees count parts pair symbols = treesSized trees && sizedApart count parts pair symbols

@@ -16,10 +16,11 @@ ghost use Rattle.format.specs.Tables.{modeTables};
 ghost use Rattle.format.specs.Check.{check};
 ghost use Rattle.format.specs.Buffer.{wordShape, reader};
 ghost use Rattle.format.specs.Walk.{walkStep};
+ghost use Rattle.tree.specs.Mode.{limitsOf};
 ghost use Rattle.tree.specs.Refusal.{verdictAnswer};
 ghost use Rattle.walk.specs.Source.{treeShape, treeReaderIn};
 ghost use Rattle.walk.specs.Walk.{stepOf, walkOf, callOf};
-ghost use Rattle.apart.specs.Apart.{apartMode, sizedApart};
+ghost use Rattle.apart.specs.Apart.{apartMode, sizedApart, sizesApart};
 
 const MOST_PARTS: usize = 2097152;
 
@@ -47,6 +48,26 @@ fn tables_apart(count: usize, parts: &[u32], pair: &[u32], symbols: &[u32]) -> b
     true
 }
 
+// Whether row 1 is silent.
+fn sized(trees: u32, count: usize, parts: &[u32], pair: &[u32], symbols: &[u32]) -> bool
+    ensures { λ r. ⌜ r ≡ sizesApart trees count (now (parts .entry)) (now (pair .entry)) (now (symbols .entry)) ⌝ }
+{
+    if !trees_sized(trees) {
+        return false;
+    }
+    tables_apart(count, parts, pair, symbols)
+}
+
+fn stated(count: usize, root: usize, symbols: usize) -> Limits
+    ensures { λ r. ⌜ limitsOf r ≡ record { limit = count; root = root; symbols = symbols } ⌝ }
+{
+    Limits {
+        limit: count,
+        root: root,
+        symbols: symbols,
+    }
+}
+
 pub fn check_apart(
     b: &[u8],
     trees: u32,
@@ -61,17 +82,10 @@ pub fn check_apart(
         (modeTables (apartMode count root (now (parts .entry)) (now (pair .entry)) (now (symbols .entry))))))
         ⌝ }
 {
-    if !trees_sized(trees) {
+    if !sized(trees, count, parts, pair, symbols) {
         return refused(1, 0);
     }
-    if !tables_apart(count, parts, pair, symbols) {
-        return refused(1, 0);
-    }
-    let limits = Limits {
-        limit: count,
-        root: root,
-        symbols: symbols.len(),
-    };
+    let limits = stated(count, root, symbols.len());
     let sizes = Sizes {
         trees: trees,
         limits: limits,
@@ -95,16 +109,9 @@ pub fn walk_apart(
         (apartMode count root (now (parts .entry)) (now (pair .entry)) (now (symbols .entry)))) (callOf skip) (walkOf walk)
         ⌝ }
 {
-    if !trees_sized(trees) {
+    if !sized(trees, count, parts, pair, symbols) {
         return refuse(1, 0, walk);
     }
-    if !tables_apart(count, parts, pair, symbols) {
-        return refuse(1, 0, walk);
-    }
-    let limits = Limits {
-        limit: count,
-        root: root,
-        symbols: symbols.len(),
-    };
+    let limits = stated(count, root, symbols.len());
     walk_in(b, trees, limits, parts, pair, symbols, walk, skip)
 }

@@ -6,7 +6,7 @@ use crate::state::MOST_OPEN;
 use decode::decode::TreeAt;
 use decode::decode::TreeRead;
 use decode::decode::decode_in;
-use decode::judge::tree_at;
+use decode::judge::tree_in;
 use tree::limits::Limits;
 use tree::raw::Descendants;
 use tree::raw::RawAt;
@@ -114,7 +114,7 @@ fn go_on(
     if trees <= at.number {
         return done(Change::Stay);
     }
-    let read = tree_at(b, limits, at.number, at.place);
+    let read = tree_in(b, limits, at.number, at.place);
     match read {
         RawRead::Bad(number) => refuse(number, at.number),
         RawRead::Got(here) => enter(at, here),

@@ -9,8 +9,8 @@ done-requires c κs = search (needs, go-cases)
 returns : tie.Need-returns
 returns c = search (needs, go-cases)
 
-tree-at-requires : tie.Need-tree-at-requires
-tree-at-requires c κs = search (needs, go-cases)
+tree-in-requires : tie.Need-tree-in-requires
+tree-in-requires c κs = search (needs, go-cases)
 
 enum-known-read : tie.Need-enum-known-read
 enum-known-read c = search (needs, go-cases)
@@ -36,7 +36,7 @@ go-on-spec =
     (tie.spec
     done-requires
     returns
-    tree-at-requires
+    tree-in-requires
     enum-known-read
     refuse-requires
     enum-known-read-2
