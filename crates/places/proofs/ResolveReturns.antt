@@ -13,7 +13,7 @@ use Rattle.places.specs.Key.{keyCount}
 use Rattle.places.specs.Index.{portion, Loaded, Ready}
 use Rattle.places.specs.Places.{belowRoot, Resolved, Placed, Closed, Streamed, Roomy, Indexed, Whole, Least}
 use Rattle.places.specs.declared.key.Layout.{Layout}
-use Rattle.places.specs.declared.key.Layout.the-variants.{Parts, Symbols, Open, Close, Name}
+use Rattle.places.specs.declared.key.Layout.the-variants.{Parts, Symbols, Open, Name}
 use Rattle.places.proofs.ClosesReturns.{opens-inside, closes-inside, names-inside}
 use Rattle.places.proofs.TreeLaw.{tree-raw}
 
