@@ -1,65 +1,60 @@
 // Row 5 of a list that rows 1 to 4 pass: its parts and symbols have places in their tables.
 use list::sized::refused;
+use places::key::same_key;
+use places::key::words_key;
 use places::resolve::resolve;
+use tree::limits::Limits;
 use tree::raw::place;
 use tree::refusal::Verdict;
+use width::CLOSE_AT;
+use width::OPEN_AT;
+use width::PART_WORDS;
+use width::TREE_WORDS;
 ghost use mathlib.Core.Path.{_≡_};
-ghost use mathlib.Core.Bool.{true};
-ghost use mathlib.Core.List.{[]};
-ghost use Prim.Native.Nat.{_+_, _*_, _/_, _<_, _≤_};
-ghost use lib.ListN.{length, getD};
+ghost use mathlib.Core.Bool.{true, _&&_};
+ghost use Prim.Native.Nat.{_+_, _*_, _<_, _≤_};
+ghost use lib.ListN.{length};
+ghost use Rattle.format.specs.MakeTables.{openPart, closePart};
+ghost use Rattle.format.specs.Part.{samePart, partAt};
 ghost use Rattle.format.specs.Tables.{indexedBelow};
+ghost use Rattle.format.specs.Width.{partSize};
 ghost use Rattle.format.specs.WordList.{wordOf, rawFrom, listCount};
-ghost use Rattle.format.specs.Writer.{isPart, present};
 ghost use Rattle.places.specs.Places.{Indexed};
+ghost use Rattle.tree.specs.Mode.{modeOf};
 ghost use Rattle.tree.specs.Refusal.{verdictAnswer};
-ghost use Rattle.passes.specs.Run.{Ready, Run, InTables, firstAbsent};
+ghost use Rattle.passes.specs.Run.{Ready, Run, reach, InTables, firstAbsent};
 ghost use Rattle.passes.specs.Tail.{fiveFrom};
 
-// Whether part i is the one that is named at a place of the list.
-fn is_part(parts: &[u32], i: usize, l: &[u32], at: usize) -> bool
-    requires { ⌜ (3 * i + 3 ≤ length (now parts)) × (at + 3 ≤ length (now l)) ⌝ }
-    ensures { λ r. ⌜ r ≡ isPart (now (parts .entry)) [] (getD (now (l .entry)) at 0)
-        (getD (now (l .entry)) (at + 1) 0) (getD (now (l .entry)) (at + 2) 0) i ⌝ }
+// Whether the pair is the root's.
+pub fn root_present(l: &[u32], pair: &[u32]) -> bool
+    requires { ⌜ (1 ≤ listCount (now l)) × (2 * partSize ≤ length (now pair)) ⌝ }
+    ensures { λ r. ⌜ r ≡ (samePart (partAt (now (pair .entry)) 0) (openPart (now (l .entry)) 0) &&
+        samePart (partAt (now (pair .entry)) 1) (closePart (now (l .entry)) 0)) ⌝ }
 {
-    if parts[3 * i] != l[at] {
+    let opening = words_key(pair, 0);
+    let other = words_key(l, OPEN_AT);
+    if !same_key(opening, other) {
         return false;
     }
-    if parts[3 * i + 1] != l[at + 1] {
-        return false;
-    }
-    if parts[3 * i + 2] != l[at + 2] {
-        return false;
-    }
-    true
-}
-
-// Whether the last two parts are the root's.
-pub fn root_present(l: &[u32], parts: &[u32]) -> bool
-    requires { ⌜ (1 ≤ listCount (now l)) × (2 ≤ length (now parts) / 3) ⌝ }
-    ensures { λ r. ⌜ r ≡ present (now (parts .entry)) [] (now (l .entry)) 0 ⌝ }
-{
-    let count = parts.len() / 3;
-    if !is_part(parts, count - 2, l, 3) {
-        return false;
-    }
-    is_part(parts, count - 1, l, 8)
+    let closing = words_key(pair, PART_WORDS);
+    let last = words_key(l, CLOSE_AT);
+    same_key(closing, last)
 }
 
 // Whether three indices are places in tables of these sizes, whichever a tree uses: no branch by its sort.
 fn all_present(
-    parts: usize,
+    limit: usize,
     symbols: usize,
     open_index: u32,
     close_index: u32,
     symbol_index: u32,
 ) -> bool
-    ensures { λ r. ⌜ ((r ≡ true) → InTables parts symbols «open_index» «close_index» «symbol_index») ⌝ }
+    ensures { λ r. ⌜ ((r ≡ true) → InTables limit symbols «open_index» «close_index» «symbol_index») ⌝ }
 {
-    if parts <= place(open_index) + 2 {
+    if limit <= place(open_index) {
         return false;
     }
-    if parts <= place(close_index) + 2 {
+    if limit <= place(close_index) {
         return false;
     }
     if symbols <= place(symbol_index) {
@@ -68,33 +63,32 @@ fn all_present(
     true
 }
 
-// Whether the indices of tree n, below the root, are places in tables of these sizes: the last two parts are the
-// root's.
+// Whether the indices of tree n, below the root, are places in tables of these sizes.
 fn is_present(
     l: &[u32],
     n: usize,
-    parts: usize,
+    limit: usize,
     symbols: usize,
     open_index: u32,
     close_index: u32,
     symbol_index: u32,
 ) -> bool
     requires { ⌜ n < listCount (now l) ⌝ }
-    ensures { λ r. ⌜ r ≡ indexedBelow parts symbols
+    ensures { λ r. ⌜ r ≡ indexedBelow (reach limit symbols)
         (rawFrom «open_index» «close_index» «symbol_index» (wordOf (now (l .entry)) n)) ⌝ }
 {
-    if all_present(parts, symbols, open_index, close_index, symbol_index) {
+    if all_present(limit, symbols, open_index, close_index, symbol_index) {
         return true;
     }
-    if parts <= place(open_index) + 2 {
+    if limit <= place(open_index) {
         return false;
     }
-    let sort = l[13 * n];
+    let sort = l[TREE_WORDS * n];
     if sort == 0 {
         return true;
     }
     if 2 < sort {
-        if parts <= place(close_index) + 2 {
+        if limit <= place(close_index) {
             return false;
         }
         return true;
@@ -108,7 +102,9 @@ fn is_present(
 // The first tree of a run with a part or a symbol that has no place, or the end of the run.
 pub fn first_absent(
     l: &[u32],
+    limits: Limits,
     parts: &[u32],
+    pair: &[u32],
     symbols: &[u32],
     from: usize,
     stop: usize,
@@ -116,15 +112,24 @@ pub fn first_absent(
     closes: &[u32],
     syms: &[u32],
 ) -> usize
-    requires { ⌜ Run (now parts) (now symbols) (now l) from stop (now opens) (now closes) (now syms) ⌝ }
-    ensures { λ r. ⌜ r ≡ firstAbsent (now (parts .entry)) (now (symbols .entry)) (now (l .entry)) from stop ⌝ }
+    requires { ⌜ Run (modeOf limits (now parts) (now pair) (now symbols)) (now l) from stop (now opens) (now closes)
+        (now syms) ⌝ }
+    ensures { λ r. ⌜ r ≡ firstAbsent (modeOf limits (now (parts .entry)) (now (pair .entry)) (now (symbols .entry)))
+        (now (l .entry)) from stop ⌝ }
 {
-    let part_count = parts.len() / 3;
     let symbol_count = symbols.len();
     let mut n = from;
     while n < stop {
         let j = n - from;
-        if !is_present(l, n, part_count, symbol_count, opens[j], closes[j], syms[j]) {
+        if !is_present(
+            l,
+            n,
+            limits.limit,
+            symbol_count,
+            opens[j],
+            closes[j],
+            syms[j],
+        ) {
             return n;
         }
         n = n + 1;
@@ -151,7 +156,9 @@ struct Searched {
 
 fn search_run(
     l: &[u32],
+    limits: Limits,
     parts: &[u32],
+    pair: &[u32],
     symbols: &[u32],
     n: usize,
     part_slots: &mut [u32],
@@ -161,17 +168,18 @@ fn search_run(
     syms: &mut [u32],
 ) -> Searched
     requires { ⌜ (1 ≤ n) × (n < listCount (now l)) ⌝ }
-    requires { ⌜ Ready (now parts) (now symbols) (now «part_slots») (now «symbol_slots») (now opens) (now closes)
-        (now syms) ⌝ }
+    requires { ⌜ Ready (limits .limit) (now parts) (now symbols) (now «part_slots») (now «symbol_slots») (now opens)
+        (now closes) (now syms) ⌝ }
     ensures { λ r. ⌜ (n < r .stop) × (r .stop ≤ listCount (now (l .entry))) ⌝ }
-    ensures { λ r. ⌜ r .found ≡ firstAbsent (now (parts .entry)) (now (symbols .entry)) (now (l .entry)) n
-        (r .stop) ⌝ }
-    ensures { λ _. ⌜ Indexed (now (parts .entry)) (now (symbols .entry)) (now («part_slots» .exit))
+    ensures { λ r. ⌜ r .found ≡ firstAbsent (modeOf limits (now (parts .entry)) (now (pair .entry))
+        (now (symbols .entry))) (now (l .entry)) n (r .stop) ⌝ }
+    ensures { λ _. ⌜ Indexed (limits .limit) (now (parts .entry)) (now (symbols .entry)) (now («part_slots» .exit))
         (now («symbol_slots» .exit)) ⌝ }
 {
-    let stop = run_end(n, opens.len(), l.len() / 13);
+    let stop = run_end(n, opens.len(), l.len() / TREE_WORDS);
     resolve(
         l,
+        limits.limit,
         parts,
         symbols,
         n,
@@ -181,7 +189,18 @@ fn search_run(
         closes,
         syms,
     );
-    let found = first_absent(l, parts, symbols, n, stop, opens, closes, syms);
+    let found = first_absent(
+        l,
+        limits,
+        parts,
+        pair,
+        symbols,
+        n,
+        stop,
+        opens,
+        closes,
+        syms,
+    );
     Searched {
         found: found,
         stop: stop,
@@ -191,7 +210,9 @@ fn search_run(
 // Row 5 below the root.
 pub fn row_five(
     l: &[u32],
+    limits: Limits,
     parts: &[u32],
+    pair: &[u32],
     symbols: &[u32],
     part_slots: &mut [u32],
     symbol_slots: &mut [u32],
@@ -200,18 +221,21 @@ pub fn row_five(
     syms: &mut [u32],
 ) -> Verdict
     requires { ⌜ listCount (now l) ≤ 1048576 ⌝ }
-    requires { ⌜ Ready (now parts) (now symbols) (now «part_slots») (now «symbol_slots») (now opens) (now closes)
-        (now syms) ⌝ }
-    ensures { λ r. ⌜ r ≡ verdictAnswer (fiveFrom (now (parts .entry)) (now (symbols .entry)) (now (l .entry)) 1) ⌝ }
-    ensures { λ _. ⌜ Indexed (now (parts .entry)) (now (symbols .entry)) (now («part_slots» .exit))
+    requires { ⌜ Ready (limits .limit) (now parts) (now symbols) (now «part_slots») (now «symbol_slots») (now opens)
+        (now closes) (now syms) ⌝ }
+    ensures { λ r. ⌜ r ≡ verdictAnswer (fiveFrom (modeOf limits (now (parts .entry)) (now (pair .entry))
+        (now (symbols .entry))) (now (l .entry)) 1) ⌝ }
+    ensures { λ _. ⌜ Indexed (limits .limit) (now (parts .entry)) (now (symbols .entry)) (now («part_slots» .exit))
         (now («symbol_slots» .exit)) ⌝ }
 {
-    let count = l.len() / 13;
+    let count = l.len() / TREE_WORDS;
     let mut n: usize = 1;
     while n < count {
         let run = search_run(
             l,
+            limits,
             parts,
+            pair,
             symbols,
             n,
             part_slots,

@@ -1,22 +1,19 @@
 -- One law for each return of the functions of src/resolve.rt.
-use Prim.Native.Nat.{ℕ, _+_, _-_, _/_, _≤_, _<_}
+use Prim.Native.Nat.{ℕ, _+_, _-_, _≤_, _<_}
 use mathlib.Core.Bool.{Bool, true, false, _&&_}
-use mathlib.Core.Path.{_≡_, refl, sym, ap, subst, _∙_}
+use mathlib.Core.Path.{_≡_, sym, _∙_}
 use mathlib.Core.List.{List}
 use native.Mathlib.Omega.{arith}
 use borrow.Author.Tests.{leb-true, le-leb, lt-leb}
 use lib.Dec.{leb}
 use lib.ListN.{length, getD}
-use Rattle.format.specs.Width.{partSize}
-use Rattle.format.specs.Part.{Part}
-use Rattle.format.specs.WordList.{wordOf, rawFrom, listCount}
-use Rattle.format.specs.Writer.{find, rawOf}
+use Rattle.format.specs.WordList.{listCount}
 use Rattle.format.proofs.Each.{and-left, and-right}
-use Rattle.places.specs.Key.{keyAt, keyCount, isKey}
+use Rattle.places.specs.Key.{keyCount}
 use Rattle.places.specs.Index.{portion, Loaded, Ready}
-use Rattle.places.specs.Places.{Resolved, Placed, Closed, Streamed, Roomy, Indexed, Whole, Least}
+use Rattle.places.specs.Places.{belowRoot, Resolved, Placed, Closed, Streamed, Roomy, Indexed, Whole, Least}
 use Rattle.places.specs.declared.key.Layout.{Layout}
-use Rattle.places.specs.declared.key.Layout.the-variants.{Parts, Symbols, Open, Close, Name}
+use Rattle.places.specs.declared.key.Layout.the-variants.{Parts, Symbols, Open, Name}
 use Rattle.places.proofs.ClosesReturns.{opens-inside, closes-inside, names-inside}
 use Rattle.places.proofs.TreeLaw.{tree-raw}
 
@@ -46,14 +43,14 @@ pub symbols-inside : (symbols : List ℕ) → length symbols ≤ keyCount symbol
 unfolding keyCount
 symbols-inside symbols = omega arith
 
-module _ (parts symbols : List ℕ) where
-  pub parts-inside : (p : ℕ) → p ≡ length parts / partSize - 2 → p ≤ keyCount parts Parts
-  unfolding keyCount
-  parts-inside p e = omega arith
+module _ (limit : ℕ) (parts symbols : List ℕ) where
+  module _ (a b : ℕ) (R : Roomy limit (length parts) (length symbols) a b) where
+    pub parts-inside : limit ≤ keyCount parts Parts
+    unfolding keyCount
+    parts-inside = let h = R .below in omega arith
 
-  module _ (a b : ℕ) (R : Roomy (length parts) (length symbols) a b) where
-    pub parts-most : (p : ℕ) → p ≡ length parts / partSize - 2 → p ≤ 2097152
-    parts-most p e = let h = R .ofParts in omega arith
+    pub parts-most : limit ≤ 2097152
+    parts-most = R .ofParts
 
     pub symbols-most : length symbols ≤ 1048576
     symbols-most = R .ofSymbols
@@ -73,11 +70,11 @@ module _ (parts symbols : List ℕ) where
     pub other-most : b ≤ 1048576
     other-most = R .mostSymbol
 
-    pub roomy-kept : (c d : ℕ) → c ≡ a → d ≡ b → Roomy (length parts) (length symbols) c d
+    pub roomy-kept : (c d : ℕ) → c ≡ a → d ≡ b → Roomy limit (length parts) (length symbols) c d
     roomy-kept c d e f = rw (e, f) R
 
-  pub indexed : (p : ℕ) → p ≡ length parts / partSize - 2 → (ps ss : List ℕ) → Ready parts Parts p ps → Ready symbols Symbols (length symbols) ss → Indexed parts symbols ps ss
-  indexed p e ps ss P S = record { ofParts = subst (λ (n : ℕ). Ready parts Parts n ps) e P; ofSymbols = S }
+  pub indexed : (ps ss : List ℕ) → Ready parts Parts limit ps → Ready symbols Symbols (length symbols) ss → Indexed limit parts symbols ps ss
+  indexed ps ss P S = record { ofParts = P; ofSymbols = S }
 
 pub ruleset size-cases = (parts-inside, symbols-inside, parts-most, symbols-most, symbols-below, slots-some, slots-most, other-some, other-most, roomy-kept)
 
@@ -101,19 +98,17 @@ module _ (n a m b most : ℕ) (ea : most ≡ portion a) where
 
 pub ruleset are-whole-cases = (parts-large, symbols-large, both-whole)
 
-pub indexed-whole : (parts symbols ps ss : List ℕ) (g : ℕ) (b : Bool) → g ≡ length parts / partSize - 2 → Roomy (length parts) (length symbols) (length ps) (length ss) → Indexed parts symbols ps ss
-    → b ≡ (leb g (portion (length ps)) && leb (length symbols) (portion (length ss))) → b ≡ true → Whole parts symbols ps ss g
-indexed-whole parts symbols ps ss g b e R I w h =
-    let x = leb g (portion (length ps)) in
+pub indexed-whole : (limit : ℕ) (parts symbols ps ss : List ℕ) (b : Bool) → Roomy limit (length parts) (length symbols) (length ps) (length ss) → Indexed limit parts symbols ps ss
+    → b ≡ (leb limit (portion (length ps)) && leb (length symbols) (portion (length ss))) → b ≡ true → Whole limit parts symbols ps ss
+indexed-whole limit parts symbols ps ss b R I w h =
+    let x = leb limit (portion (length ps)) in
     let y = leb (length symbols) (portion (length ss)) in
-    let p : g ≤ portion (length ps) = leb-true _ _ (and-left x y (sym w ∙ h)) in
+    let p : limit ≤ portion (length ps) = leb-true _ _ (and-left x y (sym w ∙ h)) in
     let s : length symbols ≤ portion (length ss) = leb-true _ _ (and-right x y (sym w ∙ h)) in
-    let r : Ready parts Parts g ps = subst (λ (n : ℕ). Ready parts Parts n ps) (sym e) (I .ofParts) in
-    let m = parts-most parts symbols (length ps) (length ss) R g e in
-    let n = symbols-below parts symbols (length ps) (length ss) R in
+    let i = parts-inside limit parts symbols (length ps) (length ss) R in
+    let n = symbols-below limit parts symbols (length ps) (length ss) R in
     record {
-      count = e;
-      ofParts = ready-whole parts Parts g ps r p (parts-inside parts symbols g e) m (R .somePart) (R .mostPart);
+      ofParts = ready-whole parts Parts limit ps (I .ofParts) p i (R .ofParts) (R .somePart) (R .mostPart);
       ofSymbols = ready-whole symbols Symbols (length symbols) ss (I .ofSymbols) s (symbols-inside symbols) n (R .someSymbol) (R .mostSymbol);
     }
 
@@ -127,29 +122,26 @@ least-second a b = record { at = λ j h k. k }
 
 pub ruleset least-cases = (least-first, least-second)
 
-pub streamed : (parts symbols l : List ℕ) (g from m : ℕ) (opens closes syms : List ℕ) → Placed parts Parts g l Open from m opens → Closed parts g l from m closes
-    → Placed symbols Symbols (length symbols) l Name from m syms → Streamed parts symbols l g from m opens closes syms
-streamed parts symbols l g from m opens closes syms O C S = record { opening = O; closing = C; symbol = S }
+pub streamed : (limit : ℕ) (parts symbols l : List ℕ) (from m : ℕ) (opens closes syms : List ℕ) → Placed parts Parts limit l Open from m opens → Closed parts limit l from m closes
+    → Placed symbols Symbols (length symbols) l Name from m syms → Streamed limit parts symbols l from m opens closes syms
+streamed limit parts symbols l from m opens closes syms O C S = record { opening = O; closing = C; symbol = S }
 
 pub ruleset stream-cases = (size-cases, opens-inside, closes-inside, names-inside, streamed)
 
-module _ (parts symbols l : List ℕ) (from : ℕ) (opens closes syms : List ℕ) where
-  pub stream-none : (m : ℕ) → listCount l ≤ from → Resolved parts symbols l from m opens closes syms
+module _ (limit : ℕ) (parts symbols l : List ℕ) (from : ℕ) (opens closes syms : List ℕ) where
+  pub stream-none : (m : ℕ) → listCount l ≤ from → Resolved (belowRoot limit parts symbols) l from m opens closes syms
   stream-none m h = record { at = λ j k q. absurd (omega arith) }
 
-  pub stream-resolved : (g m r : ℕ) → g ≡ length parts / partSize - 2 → 1 ≤ from → from < listCount l → Least (listCount l - from) m r → Streamed parts symbols l g from r opens closes syms
-      → Resolved parts symbols l from m opens closes syms
-  stream-resolved g m r e h k L S = record {
+  pub stream-resolved : (m r : ℕ) → 1 ≤ from → from < listCount l → Least (listCount l - from) m r → Streamed limit parts symbols l from r opens closes syms
+      → Resolved (belowRoot limit parts symbols) l from m opens closes syms
+  stream-resolved m r h k L S = record {
     at = λ j u q.
         let v : j < r = L .at j (omega arith) u in
-        tree-raw parts symbols l (from + j) (getD opens j 0) (getD closes j 0) (getD syms j 0) (omega arith)
-        (S .opening .done j v ∙ to (keyAt l Open (from + j)))
-        (λ w. S .closing .at j v w ∙ to (keyAt l Close (from + j)))
+        tree-raw (belowRoot limit parts symbols) l (from + j) (getD opens j 0) (getD closes j 0) (getD syms j 0) (omega arith)
+        (S .opening .done j v)
+        (λ w. S .closing .at j v w)
         (λ w. S .symbol .done j v);
   }
-    where
-      to : (x : Part) → find (isKey (keyAt parts Parts) x) g 0 ≡ find (isKey (keyAt parts Parts) x) (length parts / partSize - 2) 0
-      to x = ap (λ (n : ℕ). find (isKey (keyAt parts Parts) x) n 0) e
 
 pub ruleset resolve-stream-cases = (size-cases, stream-none, stream-resolved)
 

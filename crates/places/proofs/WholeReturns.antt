@@ -1,14 +1,15 @@
 -- One law for each return of the functions of src/whole.rt.
-use Prim.Native.Nat.{ℕ, _+_, _*_, _-_, _/_, _≤_, _<_}
+use Prim.Native.Nat.{ℕ, _+_, _*_, _-_, _≤_, _<_}
 use mathlib.Core.Bool.{Bool, true, false}
 use mathlib.Core.Logic.{⊎-elim}
-use mathlib.Core.Path.{_≡_, refl, sym, ap, subst, _∙_}
+use mathlib.Core.Path.{_≡_, sym, ap, subst, _∙_}
 use mathlib.Core.List.{List}
 use native.Mathlib.Omega.{arith}
 use lib.ListN.{length, getD, set, List·getD-eq-default}
 use lib.Seq.{getD-set-same, getD-set-other}
-use Rattle.format.specs.Width.{partSize, treeSize}
+use Rattle.format.specs.Width.{treeSize}
 use Rattle.format.specs.Part.{Part, samePart}
+use Rattle.format.specs.Tables.{Mode}
 use Rattle.format.specs.WordList.{wordOf, rawFrom, listCount}
 use Rattle.format.specs.Writer.{find, rawOf}
 use Rattle.format.proofs.Each.{true-false}
@@ -16,7 +17,7 @@ use Rattle.format.proofs.PartLaw.{same-part}
 use Rattle.format.proofs.First.{none-find}
 use Rattle.places.specs.Key.{keyAt, keyCount, shift, isKey, named}
 use Rattle.places.specs.Index.{Loaded, Finds}
-use Rattle.places.specs.Places.{Resolved, Whole}
+use Rattle.places.specs.Places.{belowRoot, Resolved, Whole}
 use Rattle.places.specs.declared.key.Layout.{Layout}
 use Rattle.places.specs.declared.key.Layout.the-variants.{Parts, Symbols, Open, Close, Name}
 use Rattle.slots.specs.declared.probe.Looked.{Looked}
@@ -113,7 +114,7 @@ module _ (l : List ℕ) (n : ℕ) (h : n < listCount l) where
   unfolding keyCount
   name-inside = h
 
-module _ (parts symbols l : List ℕ) (n g : ℕ) (ps ss : List ℕ) (W : Whole parts symbols ps ss g) where
+module _ (g : ℕ) (parts symbols l : List ℕ) (n : ℕ) (ps ss : List ℕ) (W : Whole g parts symbols ps ss) where
   pub whole-parts : Loaded parts Parts 0 g ps
   whole-parts = W .ofParts
 
@@ -121,12 +122,6 @@ module _ (parts symbols l : List ℕ) (n g : ℕ) (ps ss : List ℕ) (W : Whole 
   whole-symbols = W .ofSymbols
 
   module _ (hn : 1 ≤ n) (k : Part) (ek : k ≡ keyAt l Open n) (o : ℕ) (eo : o ≡ find (isKey (keyAt parts Parts) k) g 0) where
-    to : (x : Part) → find (isKey (keyAt parts Parts) x) g 0 ≡ find (isKey (keyAt parts Parts) x) (length parts / partSize - 2) 0
-    to x = ap (λ (j : ℕ). find (isKey (keyAt parts Parts) x) j 0) (W .count)
-
-    opened : o ≡ find (isKey (keyAt parts Parts) (keyAt l Open n)) (length parts / partSize - 2) 0
-    opened = place-of (keyAt parts Parts) g k (keyAt l Open n) o ek eo ∙ to (keyAt l Open n)
-
     -- its sort as the code has read it
     head : wordOf l n 0 ≡ getD l (treeSize * n) 0
     head = let z : treeSize * n + 0 ≡ treeSize * n = omega arith in ap (λ (j : ℕ). getD l j 0) z
@@ -136,37 +131,37 @@ module _ (parts symbols l : List ℕ) (n g : ℕ) (ps ss : List ℕ) (W : Whole 
 
     pub tree-found : (c : ℕ) → (2 < getD l (treeSize * n) 0 → c ≡ find (isKey (keyAt parts Parts) (keyAt l Close n)) g 0)
         → (y : ℕ) → (named (getD l (treeSize * n) 0) ≡ true → y ≡ find (isKey (keyAt symbols Symbols) (keyAt l Name n)) (length symbols) 0)
-        → rawFrom o c y (wordOf l n) ≡ rawOf parts symbols l n
+        → rawFrom o c y (wordOf l n) ≡ rawOf (belowRoot g parts symbols) l n
     tree-found c fc y fy =
-        tree-raw parts symbols l n o c y hn opened (λ v. fc (subst (λ (x : ℕ). 2 < x) head v) ∙ to (keyAt l Close n))
+        tree-raw (belowRoot g parts symbols) l n o c y hn opened-place (λ v. fc (subst (λ (x : ℕ). 2 < x) head v))
         (λ v. fy (subst (λ (x : ℕ). named x ≡ true) head v))
 
 pub ruleset tree-indices-cases = (open-inside, close-inside, name-inside, whole-parts, whole-symbols, opened-place, tree-found)
 
 -- ---- all trees
 
-module _ (parts symbols l : List ℕ) (from : ℕ) where
+module _ (M : Mode) (l : List ℕ) (from : ℕ) where
   module _ (opens closes syms : List ℕ) where
-    pub resolved-none : Resolved parts symbols l from 0 opens closes syms
+    pub resolved-none : Resolved M l from 0 opens closes syms
     resolved-none = record { at = λ j h. absurd (omega arith) }
 
-    pub resolved-empty : (m : ℕ) → listCount l ≤ from → Resolved parts symbols l from m opens closes syms
+    pub resolved-empty : (m : ℕ) → listCount l ≤ from → Resolved M l from m opens closes syms
     resolved-empty m h = record { at = λ j k q. absurd (omega arith) }
 
-    module _ (i : ℕ) (R : Resolved parts symbols l from i opens closes syms) where
-      pub resolved-end : (m : ℕ) → length opens ≡ m → length opens ≤ i → Resolved parts symbols l from m opens closes syms
+    module _ (i : ℕ) (R : Resolved M l from i opens closes syms) where
+      pub resolved-end : (m : ℕ) → length opens ≡ m → length opens ≤ i → Resolved M l from m opens closes syms
       resolved-end m e h = record { at = λ j k. R .at j (omega arith) }
 
-      pub resolved-past : (m : ℕ) → listCount l - from ≤ i → from < listCount l → Resolved parts symbols l from m opens closes syms
+      pub resolved-past : (m : ℕ) → listCount l - from ≤ i → from < listCount l → Resolved M l from m opens closes syms
       resolved-past m h c = record { at = λ j k q. R .at j (omega arith) q }
 
-      pub resolved-more : (x : Indices) → rawFrom (x .opening) (x .closing) (x .symbol) (wordOf l (from + i)) ≡ rawOf parts symbols l (from + i)
+      pub resolved-more : (x : Indices) → rawFrom (x .opening) (x .closing) (x .symbol) (wordOf l (from + i)) ≡ rawOf M l (from + i)
           → i < length opens → i < length closes → i < length syms
-          → Resolved parts symbols l from (i + 1) (set opens i (x .opening)) (set closes i (x .closing)) (set syms i (x .symbol))
+          → Resolved M l from (i + 1) (set opens i (x .opening)) (set closes i (x .closing)) (set syms i (x .symbol))
       resolved-more x t ho hc hs = record { at = λ j k q. ⊎-elim (λ e. here j e) (λ n. there j n k q) (eq-or-ne j i) }
         where
           tree : ℕ → ℕ → ℕ → ℕ → Type 0
-          tree j a b c = rawFrom a b c (wordOf l (from + j)) ≡ rawOf parts symbols l (from + j)
+          tree j a b c = rawFrom a b c (wordOf l (from + j)) ≡ rawOf M l (from + j)
 
           here : (j : ℕ) → j ≡ i → tree j (getD (set opens i (x .opening)) j 0) (getD (set closes i (x .closing)) j 0) (getD (set syms i (x .symbol)) j 0)
           here j e = rw (e, getD-set-same opens i (x .opening) 0 ho, getD-set-same closes i (x .closing) 0 hc, getD-set-same syms i (x .symbol) 0 hs) t

@@ -1,12 +1,13 @@
 -- What the indices of a run of trees are, and what slots hold between two calls.
-use Prim.Native.Nat.{ℕ, _+_, _-_, _/_, _<_, _≤_}
+use Prim.Native.Nat.{ℕ, _+_, _*_, _<_, _≤_}
 use mathlib.Core.Bool.{Bool, true}
 use mathlib.Core.Path.{_≡_}
-use mathlib.Core.List.{List}
+use mathlib.Core.List.{List, []}
 use lib.ListN.{length, getD}
 use lib.Dec.{ltb}
 use Rattle.format.specs.Test.{if_then_else_}
 use Rattle.format.specs.Width.{partSize}
+use Rattle.format.specs.Tables.{Mode}
 use Rattle.format.specs.WordList.{wordOf, rawFrom, listCount}
 use Rattle.format.specs.Writer.{find, rawOf}
 use Rattle.places.specs.Key.{keyAt, isKey, shift}
@@ -14,14 +15,19 @@ use Rattle.places.specs.Index.{Leads, Loaded, Ready}
 use Rattle.places.specs.declared.key.Layout.{Layout}
 use Rattle.places.specs.declared.key.Layout.the-variants.{Parts, Symbols, Open, Close, Name}
 
--- of trees from, from + 1, .. (m of them, as far as they exist) the indices that they use: "A part's index is its first place before those two, a symbol's its first place."
-pub record Resolved (parts symbols l : List ℕ) (from m : ℕ) (opens closes syms : List ℕ) : Type 0 where
-  pub at : (j : ℕ) → j < m → from + j < listCount l
-      → rawFrom (getD opens j 0) (getD closes j 0) (getD syms j 0) (wordOf l (from + j)) ≡ rawOf parts symbols l (from + j)
+-- a table mode as far as trees below the root tell: which parts are the root's, they do not ask
+abbrev pub belowRoot : ℕ → List ℕ → List ℕ → Mode
+belowRoot limit parts symbols = record { sized = true; limit = limit; root = limit; parts = parts; pair = []; symbols = symbols }
 
--- the sizes asked for: row 1's bounds on the tables, by their words, and some slots
-pub record Roomy (parts symbols partSlots symbolSlots : ℕ) : Type 0 where
-  pub ofParts : parts / partSize ≤ 2097152
+-- of trees from, from + 1, .. (m of them, as far as they exist) the indices that they use: "A part's index is its first place before those two, a symbol's its first place."
+pub record Resolved (M : Mode) (l : List ℕ) (from m : ℕ) (opens closes syms : List ℕ) : Type 0 where
+  pub at : (j : ℕ) → j < m → from + j < listCount l
+      → rawFrom (getD opens j 0) (getD closes j 0) (getD syms j 0) (wordOf l (from + j)) ≡ rawOf M l (from + j)
+
+-- the sizes asked for: row 1's bounds on the tables, the parts as far as the limit, and some slots
+pub record Roomy (limit parts symbols partSlots symbolSlots : ℕ) : Type 0 where
+  pub below : partSize * limit ≤ parts
+  pub ofParts : limit ≤ 2097152
   pub ofSymbols : symbols ≤ 1048576
   pub somePart : 0 < partSlots
   pub someSymbol : 0 < symbolSlots
@@ -29,14 +35,13 @@ pub record Roomy (parts symbols partSlots symbolSlots : ℕ) : Type 0 where
   pub mostSymbol : symbolSlots ≤ 1048576
 
 -- what slots hold between two calls
-pub record Indexed (parts symbols partSlots symbolSlots : List ℕ) : Type 0 where
-  pub ofParts : Ready parts Parts (length parts / partSize - 2) partSlots
+pub record Indexed (limit : ℕ) (parts symbols partSlots symbolSlots : List ℕ) : Type 0 where
+  pub ofParts : Ready parts Parts limit partSlots
   pub ofSymbols : Ready symbols Symbols (length symbols) symbolSlots
 
--- both tables are indexed whole, the parts but for the last two, which are behind the first g
-pub record Whole (parts symbols partSlots symbolSlots : List ℕ) (g : ℕ) : Type 0 where
-  pub count : g ≡ length parts / partSize - 2
-  pub ofParts : Loaded parts Parts 0 g partSlots
+-- both tables are indexed whole, the parts as far as the limit
+pub record Whole (limit : ℕ) (parts symbols partSlots symbolSlots : List ℕ) : Type 0 where
+  pub ofParts : Loaded parts Parts 0 limit partSlots
   pub ofSymbols : Loaded symbols Symbols 0 (length symbols) symbolSlots
 
 -- ---- a table that is read through once for a run of keys: those of the trees `from`, from + 1, ..
@@ -75,9 +80,9 @@ pub record Copied (m : ℕ) (a b : List ℕ) : Type 0 where
   pub at : (j : ℕ) → j < m → getD b j 0 ≡ getD a j 0
 
 -- the first m trees of the run
-pub record Streamed (parts symbols l : List ℕ) (g from m : ℕ) (opens closes syms : List ℕ) : Type 0 where
-  pub opening : Placed parts Parts g l Open from m opens
-  pub closing : Closed parts g l from m closes
+pub record Streamed (limit : ℕ) (parts symbols l : List ℕ) (from m : ℕ) (opens closes syms : List ℕ) : Type 0 where
+  pub opening : Placed parts Parts limit l Open from m opens
+  pub closing : Closed parts limit l from m closes
   pub symbol : Placed symbols Symbols (length symbols) l Name from m syms
 
 -- r is no less than both bounds allow

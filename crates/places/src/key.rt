@@ -30,7 +30,7 @@ pub enum Layout {
 }
 
 // The part whose words begin at a place.
-fn words_key(t: &[u32], at: usize) -> Key
+pub fn words_key(t: &[u32], at: usize) -> Key
     requires { ⌜ at + partSize ≤ length (now t) ⌝ }
     ensures { λ r. ⌜ partOf r ≡ partIn (now (t .entry)) at ⌝ }
 {
@@ -107,7 +107,7 @@ pub(crate) fn key_from(t: &[u32], layout: Layout, base: usize, i: usize) -> Key
     key_at(t, layout, base + i)
 }
 
-pub(crate) fn same_key(x: Key, y: Key) -> bool
+pub fn same_key(x: Key, y: Key) -> bool
     ensures { λ r. ⌜ r ≡ samePart (partOf x) (partOf y) ⌝ }
 {
     if x.file != y.file {

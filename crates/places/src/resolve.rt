@@ -5,30 +5,17 @@ use crate::index::portion_of;
 use crate::key::Layout;
 use crate::stream::place_run;
 use crate::whole::resolve_whole;
-use width::PART_WORDS;
 use width::TREE_WORDS;
 ghost use mathlib.Core.Path.{_≡_};
 ghost use mathlib.Core.Bool.{_&&_};
-ghost use Prim.Native.Nat.{_+_, _-_, _/_, _<_, _≤_};
+ghost use Prim.Native.Nat.{_+_, _<_, _≤_};
 ghost use lib.Dec.{leb};
 ghost use lib.ListN.{length};
-ghost use Rattle.format.specs.Width.{partSize};
 ghost use Rattle.format.specs.WordList.{listCount};
 ghost use Rattle.places.specs.Key.{keyCount};
 ghost use Rattle.places.specs.Index.{portion, Ready};
-ghost use Rattle.places.specs.Places.{Resolved, Roomy, Indexed, Placed, Closed, Streamed, Least};
+ghost use Rattle.places.specs.Places.{belowRoot, Resolved, Roomy, Indexed, Placed, Closed, Streamed, Least};
 ghost use Rattle.places.specs.declared.key.Layout.the-variants.{Parts, Symbols, Open, Close, Name};
-
-// The number of parts before the last two.
-fn below_two(parts: &[u32]) -> usize
-    ensures { λ r. ⌜ r ≡ length (now (parts .entry)) / partSize - 2 ⌝ }
-{
-    let n = parts.len() / PART_WORDS;
-    if n < 2 {
-        return 0;
-    }
-    n - 2
-}
 
 // The index of a table that is one portion.
 fn build_one(t: &[u32], table: Layout, n: usize, slots: &mut [u32])
@@ -43,15 +30,21 @@ fn build_one(t: &[u32], table: Layout, n: usize, slots: &mut [u32])
     load(t, table, 0, slots, n);
 }
 
-// Indexes the tables that are one portion of their slots, for any number of calls of resolve.
-pub fn build(parts: &[u32], symbols: &[u32], part_slots: &mut [u32], symbol_slots: &mut [u32])
-    requires { ⌜ Roomy (length (now parts)) (length (now symbols)) (length (now «part_slots»))
+// Indexes the tables that are one portion of their slots, for any number of calls of resolve: of the parts those below
+// the limit.
+pub fn build(
+    limit: usize,
+    parts: &[u32],
+    symbols: &[u32],
+    part_slots: &mut [u32],
+    symbol_slots: &mut [u32],
+)
+    requires { ⌜ Roomy limit (length (now parts)) (length (now symbols)) (length (now «part_slots»))
         (length (now «symbol_slots»)) ⌝ }
-    ensures { λ _. ⌜ Indexed (now (parts .entry)) (now (symbols .entry)) (now («part_slots» .exit))
+    ensures { λ _. ⌜ Indexed limit (now (parts .entry)) (now (symbols .entry)) (now («part_slots» .exit))
         (now («symbol_slots» .exit)) ⌝ }
 {
-    let n = below_two(parts);
-    build_one(parts, Layout::Parts, n, part_slots);
+    build_one(parts, Layout::Parts, limit, part_slots);
     build_one(symbols, Layout::Symbols, symbols.len(), symbol_slots);
 }
 
@@ -140,9 +133,9 @@ fn stream_symbols(
 // The indices of m trees: each table is read through once.
 fn stream(
     l: &[u32],
+    limit: usize,
     parts: &[u32],
     symbols: &[u32],
-    g: usize,
     from: usize,
     m: usize,
     part_slots: &mut [u32],
@@ -151,19 +144,20 @@ fn stream(
     closes: &mut [u32],
     syms: &mut [u32],
 )
-    requires { ⌜ Roomy (length (now parts)) (length (now symbols)) (length (now «part_slots»))
+    requires { ⌜ Roomy limit (length (now parts)) (length (now symbols)) (length (now «part_slots»))
         (length (now «symbol_slots»)) ⌝ }
-    requires { ⌜ (g ≡ length (now parts) / partSize - 2) × (from + m ≤ listCount (now l)) ⌝ }
+    requires { ⌜ from + m ≤ listCount (now l) ⌝ }
     requires { ⌜ (m ≤ length (now opens)) × (m ≤ length (now closes)) × (m ≤ length (now syms)) ⌝ }
-    ensures { λ _. ⌜ Streamed (now (parts .entry)) (now (symbols .entry)) (now (l .entry)) g from m
+    ensures { λ _. ⌜ Streamed limit (now (parts .entry)) (now (symbols .entry)) (now (l .entry)) from m
         (now (opens .exit)) (now (closes .exit)) (now (syms .exit)) ⌝ }
 {
-    stream_parts(l, parts, g, from, m, part_slots, opens, closes);
+    stream_parts(l, parts, limit, from, m, part_slots, opens, closes);
     stream_symbols(l, symbols, from, m, symbol_slots, syms);
 }
 
 fn resolve_stream(
     l: &[u32],
+    limit: usize,
     parts: &[u32],
     symbols: &[u32],
     from: usize,
@@ -173,14 +167,14 @@ fn resolve_stream(
     closes: &mut [u32],
     syms: &mut [u32],
 )
-    requires { ⌜ Roomy (length (now parts)) (length (now symbols)) (length (now «part_slots»))
+    requires { ⌜ Roomy limit (length (now parts)) (length (now symbols)) (length (now «part_slots»))
         (length (now «symbol_slots»)) ⌝ }
-    requires { ⌜ Indexed (now parts) (now symbols) (now «part_slots») (now «symbol_slots») ⌝ }
+    requires { ⌜ Indexed limit (now parts) (now symbols) (now «part_slots») (now «symbol_slots») ⌝ }
     requires { ⌜ (1 ≤ from) × (length (now closes) ≡ length (now opens)) ×
         (length (now syms) ≡ length (now opens)) ⌝ }
-    ensures { λ _. ⌜ Resolved (now (parts .entry)) (now (symbols .entry)) (now (l .entry)) from
+    ensures { λ _. ⌜ Resolved (belowRoot limit (now (parts .entry)) (now (symbols .entry))) (now (l .entry)) from
         (length (now (opens .entry))) (now (opens .exit)) (now (closes .exit)) (now (syms .exit)) ⌝ }
-    ensures { λ _. ⌜ Indexed (now (parts .entry)) (now (symbols .entry)) (now («part_slots» .exit))
+    ensures { λ _. ⌜ Indexed limit (now (parts .entry)) (now (symbols .entry)) (now («part_slots» .exit))
         (now («symbol_slots» .exit)) ⌝ }
 {
     let k = l.len() / TREE_WORDS;
@@ -188,12 +182,11 @@ fn resolve_stream(
         return;
     }
     let m = least(k - from, opens.len());
-    let g = below_two(parts);
     stream(
         l,
+        limit,
         parts,
         symbols,
-        g,
         from,
         m,
         part_slots,
@@ -202,12 +195,14 @@ fn resolve_stream(
         closes,
         syms,
     );
-    build(parts, symbols, part_slots, symbol_slots);
+    build(limit, parts, symbols, part_slots, symbol_slots);
 }
 
-// The indices of trees from, from + 1, ..: as many as opens, closes and syms are long, as far as they exist.
+// The indices of trees from, from + 1, .., none of them the root: as many as opens, closes and syms are long, as far
+// as they exist.
 pub fn resolve(
     l: &[u32],
+    limit: usize,
     parts: &[u32],
     symbols: &[u32],
     from: usize,
@@ -217,26 +212,25 @@ pub fn resolve(
     closes: &mut [u32],
     syms: &mut [u32],
 )
-    requires { ⌜ Roomy (length (now parts)) (length (now symbols)) (length (now «part_slots»))
+    requires { ⌜ Roomy limit (length (now parts)) (length (now symbols)) (length (now «part_slots»))
         (length (now «symbol_slots»)) ⌝ }
-    requires { ⌜ Indexed (now parts) (now symbols) (now «part_slots») (now «symbol_slots») ⌝ }
+    requires { ⌜ Indexed limit (now parts) (now symbols) (now «part_slots») (now «symbol_slots») ⌝ }
     requires { ⌜ (1 ≤ from) × (length (now closes) ≡ length (now opens)) ×
         (length (now syms) ≡ length (now opens)) ⌝ }
-    ensures { λ _. ⌜ Resolved (now (parts .entry)) (now (symbols .entry)) (now (l .entry)) from
+    ensures { λ _. ⌜ Resolved (belowRoot limit (now (parts .entry)) (now (symbols .entry))) (now (l .entry)) from
         (length (now (opens .entry))) (now (opens .exit)) (now (closes .exit)) (now (syms .exit)) ⌝ }
-    ensures { λ _. ⌜ Indexed (now (parts .entry)) (now (symbols .entry)) (now («part_slots» .exit))
+    ensures { λ _. ⌜ Indexed limit (now (parts .entry)) (now (symbols .entry)) (now («part_slots» .exit))
         (now («symbol_slots» .exit)) ⌝ }
 {
-    let n = below_two(parts);
-    if are_whole(n, part_slots.len(), symbols.len(), symbol_slots.len()) {
+    if are_whole(limit, part_slots.len(), symbols.len(), symbol_slots.len()) {
         resolve_whole(
             l,
+            limit,
             parts,
             symbols,
             from,
             part_slots,
             symbol_slots,
-            n,
             opens,
             closes,
             syms,
@@ -245,6 +239,7 @@ pub fn resolve(
     }
     resolve_stream(
         l,
+        limit,
         parts,
         symbols,
         from,

@@ -17,7 +17,7 @@ ghost use Rattle.format.specs.Writer.{find, rawOf};
 ghost use Rattle.places.specs.Key.{partOf, keyAt, keyCount, isKey, named};
 ghost use Rattle.places.specs.Index.{Loaded};
 ghost use Rattle.places.specs.declared.key.Layout.the-variants.{Parts, Symbols, Open, Close, Name};
-ghost use Rattle.places.specs.Places.{Resolved, Whole};
+ghost use Rattle.places.specs.Places.{belowRoot, Resolved, Whole};
 
 // What a tree does not use may be any.
 pub struct Indices {
@@ -118,21 +118,21 @@ fn name_place(l: &[u32], n: usize, sort: u32, symbols: &[u32], slots: &[u32]) ->
 fn tree_indices(
     l: &[u32],
     n: usize,
+    limit: usize,
     parts: &[u32],
     symbols: &[u32],
     part_slots: &[u32],
     symbol_slots: &[u32],
-    g: usize,
 ) -> Indices
-    requires { ⌜ Whole (now parts) (now symbols) (now «part_slots») (now «symbol_slots») g ⌝ }
+    requires { ⌜ Whole limit (now parts) (now symbols) (now «part_slots») (now «symbol_slots») ⌝ }
     requires { ⌜ (n < listCount (now l)) × (1 ≤ n) ⌝ }
     ensures { λ r. ⌜ rawFrom (r .opening) (r .closing) (r .symbol) (wordOf (now (l .entry)) n) ≡ rawOf
-        (now (parts .entry)) (now (symbols .entry)) (now (l .entry)) n ⌝ }
+        (belowRoot limit (now (parts .entry)) (now (symbols .entry))) (now (l .entry)) n ⌝ }
 {
     let sort = l[TREE_WORDS * n];
     let k = key_at(l, Layout::Open, n);
-    let o = place_in(parts, Layout::Parts, part_slots, g, k);
-    let c = close_place(l, n, sort, parts, part_slots, g, o);
+    let o = place_in(parts, Layout::Parts, part_slots, limit, k);
+    let c = close_place(l, n, sort, parts, part_slots, limit, o);
     let y = name_place(l, n, sort, symbols, symbol_slots);
     Indices {
         opening: o,
@@ -144,6 +144,7 @@ fn tree_indices(
 // Tree from + i of a run: those before it are there.
 fn put(
     l: &[u32],
+    limit: usize,
     parts: &[u32],
     symbols: &[u32],
     from: usize,
@@ -154,11 +155,12 @@ fn put(
     x: Indices,
 )
     requires { ⌜ (i < length (now opens)) × (i < length (now closes)) × (i < length (now syms)) ⌝ }
-    requires { ⌜ rawFrom (x .opening) (x .closing) (x .symbol) (wordOf (now l) (from + i)) ≡ rawOf (now parts)
-        (now symbols) (now l) (from + i) ⌝ }
-    requires { ⌜ Resolved (now parts) (now symbols) (now l) from i (now opens) (now closes) (now syms) ⌝ }
-    ensures { λ _. ⌜ Resolved (now (parts .entry)) (now (symbols .entry)) (now (l .entry)) from (i + 1)
-        (now (opens .exit)) (now (closes .exit)) (now (syms .exit)) ⌝ }
+    requires { ⌜ rawFrom (x .opening) (x .closing) (x .symbol) (wordOf (now l) (from + i)) ≡ rawOf
+        (belowRoot limit (now parts) (now symbols)) (now l) (from + i) ⌝ }
+    requires { ⌜ Resolved (belowRoot limit (now parts) (now symbols)) (now l) from i (now opens) (now closes)
+        (now syms) ⌝ }
+    ensures { λ _. ⌜ Resolved (belowRoot limit (now (parts .entry)) (now (symbols .entry))) (now (l .entry)) from
+        (i + 1) (now (opens .exit)) (now (closes .exit)) (now (syms .exit)) ⌝ }
 {
     opens[i] = x.opening;
     closes[i] = x.closing;
@@ -167,20 +169,20 @@ fn put(
 
 pub(crate) fn resolve_whole(
     l: &[u32],
+    limit: usize,
     parts: &[u32],
     symbols: &[u32],
     from: usize,
     part_slots: &[u32],
     symbol_slots: &[u32],
-    g: usize,
     opens: &mut [u32],
     closes: &mut [u32],
     syms: &mut [u32],
 )
-    requires { ⌜ Whole (now parts) (now symbols) (now «part_slots») (now «symbol_slots») g ⌝ }
+    requires { ⌜ Whole limit (now parts) (now symbols) (now «part_slots») (now «symbol_slots») ⌝ }
     requires { ⌜ (1 ≤ from) × (length (now closes) ≡ length (now opens)) ×
         (length (now syms) ≡ length (now opens)) ⌝ }
-    ensures { λ _. ⌜ Resolved (now (parts .entry)) (now (symbols .entry)) (now (l .entry)) from
+    ensures { λ _. ⌜ Resolved (belowRoot limit (now (parts .entry)) (now (symbols .entry))) (now (l .entry)) from
         (length (now (opens .entry))) (now (opens .exit)) (now (closes .exit)) (now (syms .exit)) ⌝ }
 {
     let k = l.len() / TREE_WORDS;
@@ -192,8 +194,8 @@ pub(crate) fn resolve_whole(
         if k - from <= i {
             return;
         }
-        let x = tree_indices(l, from + i, parts, symbols, part_slots, symbol_slots, g);
-        put(l, parts, symbols, from, opens, closes, syms, i, x);
+        let x = tree_indices(l, from + i, limit, parts, symbols, part_slots, symbol_slots);
+        put(l, limit, parts, symbols, from, opens, closes, syms, i, x);
         i = i + 1;
     }
 }

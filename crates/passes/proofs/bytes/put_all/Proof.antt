@@ -3,6 +3,7 @@ use mathlib.Core.Path.{_≡_}
 use lib.ListN.{length}
 use Rattle.passes.specs.Run.{Ready, Kept, Advanced}
 use Rattle.format.specs.Builder.{holdingAll}
+use Rattle.tree.specs.Mode.{modeOf}
 use borrow.Author.Needs.{needs}
 use Rattle.passes.proofs.BytesReturns.{put-all-cases}
 use Rattle.passes.proofs.bytes.put_all.Statement.{statement}
@@ -12,13 +13,13 @@ use Rattle.passes.proofs.bytes.put_all.Lts as lts
 use Rattle.passes.proofs.bytes.put_from.Reads as put-from-reads
 
 abbrev Inv-loop : tie.InvT-loop
-Inv-loop l parts symbols count work out₀ part-slots₀ symbol-slots₀ opens₀ closes₀ syms₀ n₀ out part-slots symbol-slots opens closes syms n =
-    (1 ≤ n) × (n ≤ count) × Advanced parts symbols (holdingAll l) 1 n out₀ out × (length out ≡ length out₀)
-    × Ready parts symbols part-slots symbol-slots opens closes syms
+Inv-loop l limits parts pair symbols count work out₀ part-slots₀ symbol-slots₀ opens₀ closes₀ syms₀ n₀ out part-slots symbol-slots opens closes syms n =
+    (1 ≤ n) × (n ≤ count) × Advanced (modeOf limits parts pair symbols) (holdingAll l) 1 n out₀ out × (length out ≡ length out₀)
+    × Ready (limits .limit) parts symbols part-slots symbol-slots opens closes syms
     × Kept part-slots symbol-slots opens closes syms part-slots₀ symbol-slots₀ opens₀ closes₀ syms₀
 
 abbrev μ-loop : tie.MeasureT-loop
-μ-loop l parts symbols count work out₀ part-slots₀ symbol-slots₀ opens₀ closes₀ syms₀ n₀ out part-slots symbol-slots opens closes syms n =
+μ-loop l limits parts pair symbols count work out₀ part-slots₀ symbol-slots₀ opens₀ closes₀ syms₀ n₀ out part-slots symbol-slots opens closes syms n =
     count - n
 
 -- src/bytes.rt:129:5

@@ -19,7 +19,7 @@ resolve-requires c κs = (search (needs, put-from-cases), (search (needs, put-fr
 -- src/bytes.rt:104:5
 put-run-requires : tie.Need-put-run-requires
 put-run-requires c κs =
-    let p = c .before .before .before .before .before .before .before .before .before .before .before .before .before .before .before .before .before .before .before .before .before .before .before .before .before .before .before .before .before .before .before .pre in
+    let p = c .before .before .before .before .before .before .before .before .before .before .before .before .before .before .before .before .before .before .before .before .before .before .before .before .before .before .before .before .before .before .before .before .pre in
     (search (needs, put-from-cases), (search (needs, put-from-cases, p), (search (needs, put-from-cases, p), search (needs, put-from-cases, p))))
 
 -- src/bytes.rt:81:1

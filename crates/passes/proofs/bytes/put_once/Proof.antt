@@ -16,7 +16,9 @@ same-length : tie.Need-same-length
 same-length c = search (needs, put-once-cases)
 
 returns-2 : tie.Need-returns-2
-returns-2 c = search (needs, put-once-cases)
+returns-2 c =
+    let p = c .before .before .before .before .before .before .before .before .before .before .before .before .before .before .before .before .before .before .pre in
+    search (needs, put-once-cases, p)
 
 pub put-once-spec : {M : Type 1} → statement M
 put-once-spec =

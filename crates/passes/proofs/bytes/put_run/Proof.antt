@@ -3,80 +3,58 @@ use mathlib.Core.Path.{_≡_}
 use lib.ListN.{length}
 use Rattle.passes.specs.Run.{Advanced}
 use Rattle.format.specs.Builder.{holdingAll}
+use Rattle.tree.specs.Mode.{modeOf}
 use borrow.Author.Needs.{needs}
 use Rattle.passes.proofs.BytesReturns.{put-run-cases}
 use Rattle.passes.proofs.bytes.put_run.Statement.{statement}
 use Rattle.passes.proofs.bytes.put_run.Tie as tie
-use Rattle.passes.proofs.bytes.put_run.Reads as reads
-use Rattle.passes.proofs.bytes.put_run.Lts as lts
-use Rattle.passes.proofs.bytes.begin_of.Reads as begin-of-reads
-use Rattle.passes.proofs.bytes.put_at.Reads as put-at-reads
 
 abbrev Inv-loop : tie.InvT-loop
-Inv-loop l parts symbols from stop opens closes syms work out₀ n₀ out n =
-    (from ≤ n) × (n ≤ stop) × Advanced parts symbols (holdingAll l) from n out₀ out × (length out ≡ length out₀)
+Inv-loop l limits parts pair symbols from stop opens closes syms work out₀ n₀ out n =
+    (from ≤ n) × (n ≤ stop) × Advanced (modeOf limits parts pair symbols) (holdingAll l) from n out₀ out × (length out ≡ length out₀)
 
 abbrev μ-loop : tie.MeasureT-loop
-μ-loop l parts symbols from stop opens closes syms work out₀ n₀ out n =
-    stop - n
+μ-loop l limits parts pair symbols from stop opens closes syms work out₀ n₀ out n = stop - n
 
--- src/bytes.rt:72:5
 loop-holds : tie.Need-loop-holds Inv-loop μ-loop
 loop-holds c = search (needs, put-run-cases)
 
--- src/bytes.rt:73:17
 sub-j : tie.Need-sub-j Inv-loop μ-loop
 sub-j c = search (needs, put-run-cases)
 
--- src/bytes.rt:74:13
-begin-of-requires : tie.Need-begin-of-requires Inv-loop μ-loop
-begin-of-requires c κs = search (needs, put-run-cases)
-
--- src/bytes.rt:75:22
 mul-put-at : tie.Need-mul-put-at Inv-loop μ-loop
 mul-put-at c = search (needs, put-run-cases)
 
--- src/bytes.rt:75:22
 shared-slice-read-put-at : tie.Need-shared-slice-read-put-at Inv-loop μ-loop
 shared-slice-read-put-at c = search (needs, put-run-cases)
 
--- src/bytes.rt:75:32
 mul-put-at-2 : tie.Need-mul-put-at-2 Inv-loop μ-loop
 mul-put-at-2 c = search (needs, put-run-cases)
 
--- src/bytes.rt:75:32
 shared-slice-read-put-at-2 : tie.Need-shared-slice-read-put-at-2 Inv-loop μ-loop
 shared-slice-read-put-at-2 c = search (needs, put-run-cases)
 
--- src/bytes.rt:75:43
 mul-put-at-3 : tie.Need-mul-put-at-3 Inv-loop μ-loop
 mul-put-at-3 c = search (needs, put-run-cases)
 
--- src/bytes.rt:75:43
 shared-slice-read-put-at-3 : tie.Need-shared-slice-read-put-at-3 Inv-loop μ-loop
 shared-slice-read-put-at-3 c = search (needs, put-run-cases)
 
--- src/bytes.rt:75:9
 put-at-requires : tie.Need-put-at-requires Inv-loop μ-loop
-put-at-requires c κs = search (needs, put-run-cases)
+put-at-requires c κs = (search (needs, put-run-cases), ((search (needs, put-run-cases), search (needs, put-run-cases)), (search (needs, put-run-cases), (search (needs, put-run-cases), search (needs, put-run-cases)))))
 
--- src/bytes.rt:76:13
 add-n : tie.Need-add-n Inv-loop μ-loop
 add-n c = search (needs, put-run-cases)
 
--- src/bytes.rt:72:5
 loop-less : tie.Need-loop-less Inv-loop μ-loop
 loop-less c = search (needs, put-run-cases)
 
--- src/bytes.rt:72:5
 loop-again : tie.Need-loop-again Inv-loop μ-loop
 loop-again c = search (needs, put-run-cases)
 
--- src/bytes.rt:53:1
 same-length : tie.Need-same-length Inv-loop μ-loop
 same-length c = search (needs, put-run-cases)
 
--- src/bytes.rt:53:1
 returns : tie.Need-returns Inv-loop μ-loop
 returns c = search (needs, put-run-cases)
 
@@ -88,7 +66,6 @@ put-run-spec =
     μ-loop
     loop-holds
     sub-j
-    begin-of-requires
     mul-put-at
     shared-slice-read-put-at
     mul-put-at-2

@@ -6,17 +6,11 @@ use Rattle.passes.proofs.five.all_present.Tie as tie
 place-requires : tie.Need-place-requires
 place-requires c κs = search (needs, all-present-cases)
 
-add-if1 : tie.Need-add-if1
-add-if1 c = search (needs, all-present-cases)
-
 returns : tie.Need-returns
 returns c = search (needs, all-present-cases)
 
 place-requires-2 : tie.Need-place-requires-2
 place-requires-2 c κs = search (needs, all-present-cases)
-
-add-if2 : tie.Need-add-if2
-add-if2 c = search (needs, all-present-cases)
 
 returns-2 : tie.Need-returns-2
 returns-2 c = search (needs, all-present-cases)
@@ -35,10 +29,8 @@ all-present-spec =
     tie.close
     (tie.spec
     place-requires
-    add-if1
     returns
     place-requires-2
-    add-if2
     returns-2
     place-requires-3
     returns-3

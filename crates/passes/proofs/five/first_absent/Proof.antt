@@ -1,6 +1,7 @@
 use Prim.Native.Nat.{_-_, _≤_}
 use mathlib.Core.Path.{_≡_}
 use Rattle.passes.specs.Run.{firstAbsent}
+use Rattle.tree.specs.Mode.{modeOf}
 use borrow.Author.Needs.{needs}
 use Rattle.passes.proofs.FiveReturns.{absent-cases}
 use Rattle.passes.proofs.five.first_absent.Statement.{statement}
@@ -10,10 +11,10 @@ use Rattle.passes.proofs.five.first_absent.Lts as lts
 use Rattle.passes.proofs.five.is_present.Reads as is-present-reads
 
 abbrev Inv-loop : tie.InvT-loop
-Inv-loop l parts symbols from stop opens closes syms part-count symbol-count n₀ n = (from ≤ n) × (n ≤ stop) × (firstAbsent parts symbols l from stop ≡ firstAbsent parts symbols l n stop)
+Inv-loop l limits parts pair symbols from stop opens closes syms symbol-count n₀ n = (from ≤ n) × (n ≤ stop) × (firstAbsent (modeOf limits parts pair symbols) l from stop ≡ firstAbsent (modeOf limits parts pair symbols) l n stop)
 
 abbrev μ-loop : tie.MeasureT-loop
-μ-loop l parts symbols from stop opens closes syms part-count symbol-count n₀ n = stop - n
+μ-loop l limits parts pair symbols from stop opens closes syms symbol-count n₀ n = stop - n
 
 -- src/five.rt:84:5
 loop-holds : tie.Need-loop-holds Inv-loop μ-loop

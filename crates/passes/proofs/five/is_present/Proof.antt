@@ -12,9 +12,6 @@ returns c = search (needs, present-cases)
 place-requires : tie.Need-place-requires
 place-requires c κs = search (needs, present-cases)
 
-add-if2 : tie.Need-add-if2
-add-if2 c = search (needs, present-cases)
-
 returns-2 : tie.Need-returns-2
 returns-2 c = search (needs, present-cases)
 
@@ -32,9 +29,6 @@ returns-3 c = search (needs, present-cases)
 
 place-requires-2 : tie.Need-place-requires-2
 place-requires-2 c κs = search (needs, present-cases)
-
-add-if5 : tie.Need-add-if5
-add-if5 c = search (needs, present-cases)
 
 returns-4 : tie.Need-returns-4
 returns-4 c = search (needs, present-cases)
@@ -58,14 +52,12 @@ is-present-spec =
     all-present-requires
     returns
     place-requires
-    add-if2
     returns-2
     mul-sort
     mul-sort-2
     shared-slice-read-sort
     returns-3
     place-requires-2
-    add-if5
     returns-4
     returns-5
     place-requires-3

@@ -3,6 +3,7 @@ use mathlib.Core.Path.{_≡_}
 use Rattle.format.specs.WordList.{listCount}
 use Rattle.passes.specs.Tail.{fiveFrom}
 use Rattle.passes.specs.Run.{Ready, Kept}
+use Rattle.tree.specs.Mode.{modeOf}
 use borrow.Author.Needs.{needs}
 use Rattle.passes.proofs.FiveReturns.{five-cases}
 use Rattle.passes.proofs.five.row_five.Statement.{statement}
@@ -13,12 +14,12 @@ use Rattle.list.proofs.sized.refused.Reads as refused-reads
 use Rattle.passes.proofs.five.search_run.Reads as search-run-reads
 
 abbrev Inv-loop : tie.InvT-loop
-Inv-loop l parts symbols part-slots₀ symbol-slots₀ opens₀ closes₀ syms₀ count n₀ part-slots symbol-slots opens closes syms n =
-    (1 ≤ n) × (fiveFrom parts symbols l 1 ≡ fiveFrom parts symbols l n) × Ready parts symbols part-slots symbol-slots opens closes syms
+Inv-loop l limits parts pair symbols part-slots₀ symbol-slots₀ opens₀ closes₀ syms₀ count n₀ part-slots symbol-slots opens closes syms n =
+    (1 ≤ n) × (fiveFrom (modeOf limits parts pair symbols) l 1 ≡ fiveFrom (modeOf limits parts pair symbols) l n) × Ready (limits .limit) parts symbols part-slots symbol-slots opens closes syms
     × Kept part-slots symbol-slots opens closes syms part-slots₀ symbol-slots₀ opens₀ closes₀ syms₀
 
 abbrev μ-loop : tie.MeasureT-loop
-μ-loop l parts symbols part-slots₀ symbol-slots₀ opens₀ closes₀ syms₀ count n₀ part-slots symbol-slots opens closes syms n =
+μ-loop l limits parts pair symbols part-slots₀ symbol-slots₀ opens₀ closes₀ syms₀ count n₀ part-slots symbol-slots opens closes syms n =
     listCount l - n
 
 -- src/five.rt:155:5

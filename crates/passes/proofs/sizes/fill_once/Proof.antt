@@ -25,14 +25,14 @@ size-root-requires c κs = search (needs, fill-cases)
 
 -- src/once.rt:68:1
 same-length : tie.Need-same-length
-same-length c = filled-long _ (c .before .before .before .before .before .before .before .before .before .before .before .before .before .before .before .args .work .now) _ _ (c .before .before .size-root .ensures .1) (c .before .before .before .before .before .before .size-run .ensures .1)
+same-length c = filled-long _ (c .before .before .before .before .before .before .before .before .before .before .before .before .before .before .before .before .args .work .now) _ _ (c .before .before .size-root .ensures .1) (c .before .before .before .before .before .before .size-run .ensures .1)
 
 -- src/once.rt:68:1
 returns : tie.Need-returns
 returns c =
     let p = c .before .before .size-root .ensures in
     let q = c .before .before .before .before .before .before .size-run .ensures in
-    (p .0, beyond-filled _ (c .before .before .before .before .before .before .before .before .before .before .before .before .before .before .before .args .work .now) _ _ (p .1) (q .1))
+    (p .0, beyond-filled _ (c .before .before .before .before .before .before .before .before .before .before .before .before .before .before .before .before .args .work .now) _ _ (p .1) (q .1))
 
 pub fill-once-spec : {M : Type 1} → statement M
 fill-once-spec =

@@ -18,7 +18,7 @@ slice-write-work c = search (needs, fill-cases)
 -- src/sizes.rt:170:5
 size-all-requires : tie.Need-size-all-requires
 size-all-requires c κs =
-    let p = c .before .before .before .before .before .before .before .before .before .before .before .before .before .before .before .pre in
+    let p = c .before .before .before .before .before .before .before .before .before .before .before .before .before .before .before .before .pre in
     (search (needs, fill-cases, p), (search (needs, fill-cases, p), search (needs, fill-cases, p)))
 
 -- src/sizes.rt:171:5
@@ -27,7 +27,7 @@ size-root-requires c κs = search (needs, fill-cases)
 
 -- src/sizes.rt:150:1
 same-length : tie.Need-same-length
-same-length c = filled-long _ (c .before .before .before .before .before .before .before .before .before .before .before .before .before .before .before .before .before .before .before .before .before .before .before .before .before .before .before .before .before .before .before .before .args .work .now) _ _ (c .before .before .size-root .ensures .1) (c .before .before .before .before .before .before .before .before .before .before .before .before .before .before .before .before .size-all .ensures .1 .0)
+same-length c = filled-long _ (c .before .before .before .before .before .before .before .before .before .before .before .before .before .before .before .before .before .before .before .before .before .before .before .before .before .before .before .before .before .before .before .before .before .args .work .now) _ _ (c .before .before .size-root .ensures .1) (c .before .before .before .before .before .before .before .before .before .before .before .before .before .before .before .before .size-all .ensures .1 .0)
 
 -- src/sizes.rt:150:1
 same-length-2 : tie.Need-same-length-2
@@ -54,7 +54,7 @@ returns : tie.Need-returns
 returns c =
     let p = c .before .before .size-root .ensures in
     let q = c .before .before .before .before .before .before .before .before .before .before .before .before .before .before .before .before .size-all .ensures in
-    (p .0, (beyond-filled _ (c .before .before .before .before .before .before .before .before .before .before .before .before .before .before .before .before .before .before .before .before .before .before .before .before .before .before .before .before .before .before .before .before .args .work .now) _ _ (p .1) (q .1 .0), q .1 .1))
+    (p .0, (beyond-filled _ (c .before .before .before .before .before .before .before .before .before .before .before .before .before .before .before .before .before .before .before .before .before .before .before .before .before .before .before .before .before .before .before .before .before .args .work .now) _ _ (p .1) (q .1 .0), q .1 .1))
 
 pub fill-work-spec : {M : Type 1} → statement M
 fill-work-spec =

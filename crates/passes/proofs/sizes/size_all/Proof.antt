@@ -1,6 +1,7 @@
 use Prim.Native.Nat.{_≤_}
 use Rattle.format.specs.WordList.{listCount}
 use Rattle.passes.specs.Run.{Ready, Kept, Sized, Beyond}
+use Rattle.tree.specs.Mode.{modeOf}
 use borrow.Author.Needs.{needs}
 use Rattle.passes.proofs.SizesReturns.{size-all-cases}
 use Rattle.passes.proofs.sizes.size_all.Statement.{statement}
@@ -10,12 +11,12 @@ use Rattle.passes.proofs.sizes.size_all.Lts as lts
 use Rattle.passes.proofs.sizes.size_before.Reads as size-before-reads
 
 abbrev Inv-loop : tie.InvT-loop
-Inv-loop l parts symbols work₀ part-slots₀ symbol-slots₀ opens₀ closes₀ syms₀ n₀ work part-slots symbol-slots opens closes syms n =
-    (1 ≤ n) × (n ≤ listCount l) × Sized parts symbols l n work × Beyond l work work₀ × Ready parts symbols part-slots symbol-slots opens closes syms
+Inv-loop l limits parts pair symbols work₀ part-slots₀ symbol-slots₀ opens₀ closes₀ syms₀ n₀ work part-slots symbol-slots opens closes syms n =
+    (1 ≤ n) × (n ≤ listCount l) × Sized (modeOf limits parts pair symbols) l n work × Beyond l work work₀ × Ready (limits .limit) parts symbols part-slots symbol-slots opens closes syms
     × Kept part-slots symbol-slots opens closes syms part-slots₀ symbol-slots₀ opens₀ closes₀ syms₀
 
 abbrev μ-loop : tie.MeasureT-loop
-μ-loop l parts symbols work₀ part-slots₀ symbol-slots₀ opens₀ closes₀ syms₀ n₀ work part-slots symbol-slots opens closes syms n =
+μ-loop l limits parts pair symbols work₀ part-slots₀ symbol-slots₀ opens₀ closes₀ syms₀ n₀ work part-slots symbol-slots opens closes syms n =
     n
 
 -- src/sizes.rt:131:5

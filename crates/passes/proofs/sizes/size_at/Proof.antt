@@ -9,8 +9,29 @@ children-of-requires c κs = search (needs, size-at-cases)
 listed-size-requires : tie.Need-listed-size-requires
 listed-size-requires c κs = search (needs, size-at-cases)
 
-cast-result : tie.Need-cast-result
-cast-result c = search (needs, size-at-cases)
+cast-size : tie.Need-cast-size
+cast-size c = search (needs, size-at-cases)
+
+add-work : tie.Need-add-work
+add-work c = search (needs, size-at-cases)
+
+mul-work : tie.Need-mul-work
+mul-work c = search (needs, size-at-cases)
+
+slice-read-work : tie.Need-slice-read-work
+slice-read-work c = search (needs, size-at-cases)
+
+add-work-2 : tie.Need-add-work-2
+add-work-2 c = search (needs, size-at-cases)
+
+mul-work-2 : tie.Need-mul-work-2
+mul-work-2 c = search (needs, size-at-cases)
+
+slice-write-work : tie.Need-slice-write-work
+slice-write-work c = search (needs, size-at-cases)
+
+same-length : tie.Need-same-length
+same-length c = search (needs, size-at-cases)
 
 returns : tie.Need-returns
 returns c = search (needs, size-at-cases)
@@ -21,5 +42,12 @@ size-at-spec =
     (tie.spec
     children-of-requires
     listed-size-requires
-    cast-result
+    cast-size
+    add-work
+    mul-work
+    slice-read-work
+    add-work-2
+    mul-work-2
+    slice-write-work
+    same-length
     returns)

@@ -19,7 +19,7 @@ resolve-requires c κs = (search (needs, size-all-cases), (search (needs, size-a
 -- src/sizes.rt:107:5
 size-run-requires : tie.Need-size-run-requires
 size-run-requires c κs =
-    let p = c .before .before .before .before .before .before .before .before .before .before .before .before .before .before .before .before .before .before .before .before .before .before .before .before .before .before .before .before .before .before .pre in
+    let p = c .before .before .before .before .before .before .before .before .before .before .before .before .before .before .before .before .before .before .before .before .before .before .before .before .before .before .before .before .before .before .before .pre in
     (search (needs, size-all-cases), (search (needs, size-all-cases, p), search (needs, size-all-cases, p)))
 
 -- src/sizes.rt:85:1

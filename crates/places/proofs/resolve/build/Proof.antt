@@ -4,12 +4,7 @@ use Rattle.places.proofs.resolve.build.Statement.{statement}
 use Rattle.places.proofs.resolve.build.Tie as tie
 use Rattle.places.proofs.resolve.build.Reads as reads
 use Rattle.places.proofs.resolve.build.Lts as lts
-use Rattle.places.proofs.resolve.below_two.Reads as below-two-reads
 use Rattle.places.proofs.resolve.build_one.Reads as build-one-reads
-
--- src/resolve.rt:45:9
-below-two-requires : tie.Need-below-two-requires
-below-two-requires c κs = search (needs, build-cases)
 
 -- src/resolve.rt:46:5
 build-one-requires : tie.Need-build-one-requires
@@ -35,7 +30,6 @@ pub build-spec : {M : Type 1} → statement M
 build-spec =
     tie.close
     (tie.spec
-    below-two-requires
     build-one-requires
     build-one-requires-2
     same-length

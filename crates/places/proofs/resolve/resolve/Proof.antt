@@ -5,13 +5,8 @@ use Rattle.places.proofs.resolve.resolve.Tie as tie
 use Rattle.places.proofs.resolve.resolve.Reads as reads
 use Rattle.places.proofs.resolve.resolve.Lts as lts
 use Rattle.places.proofs.resolve.are_whole.Reads as are-whole-reads
-use Rattle.places.proofs.resolve.below_two.Reads as below-two-reads
 use Rattle.places.proofs.resolve.resolve_stream.Reads as resolve-stream-reads
 use Rattle.places.proofs.whole.resolve_whole.Reads as resolve-whole-reads
-
--- src/resolve.rt:187:9
-below-two-requires : tie.Need-below-two-requires
-below-two-requires c κs = search (needs, resolve-cases)
 
 -- src/resolve.rt:188:8
 are-whole-requires : tie.Need-are-whole-requires
@@ -77,7 +72,6 @@ pub resolve-spec : {M : Type 1} → statement M
 resolve-spec =
     tie.close
     (tie.spec
-    below-two-requires
     are-whole-requires
     resolve-whole-requires
     same-length

@@ -4,7 +4,6 @@ use Rattle.places.proofs.resolve.resolve_stream.Statement.{statement}
 use Rattle.places.proofs.resolve.resolve_stream.Tie as tie
 use Rattle.places.proofs.resolve.resolve_stream.Reads as reads
 use Rattle.places.proofs.resolve.resolve_stream.Lts as lts
-use Rattle.places.proofs.resolve.below_two.Reads as below-two-reads
 use Rattle.places.proofs.resolve.build.Reads as build-reads
 use Rattle.places.proofs.resolve.least.Reads as least-reads
 use Rattle.places.proofs.resolve.stream.Reads as stream-reads
@@ -20,10 +19,6 @@ sub-least c = search (needs, resolve-stream-cases)
 -- src/resolve.rt:151:9
 least-requires : tie.Need-least-requires
 least-requires c κs = search (needs, resolve-stream-cases)
-
--- src/resolve.rt:152:9
-below-two-requires : tie.Need-below-two-requires
-below-two-requires c κs = search (needs, resolve-stream-cases)
 
 -- src/resolve.rt:153:5
 stream-requires : tie.Need-stream-requires
@@ -56,12 +51,11 @@ same-length-5 c = search (needs, resolve-stream-cases)
 -- src/resolve.rt:130:1
 returns-2 : tie.Need-returns-2
 returns-2 c =
-    let start = c .before .before .before .before .before .before .before .before .before .before .before .before .before .before .before .before .before .before .before .before .before .before .before .before .before .before .before .before .before .before .before .before .before .before in
-    let test = c .before .before .before .before .before .before .before .before .before .before .before .before .before .before .before .before .before .before .before .before .before .before .before .before .before .if1 in
-    let run = c .before .before .before .before .before .before .before .before .before .before .before .before .before .before .before .before .before .before .before .before .before .before .before .before .least in
-    let below = c .before .before .before .before .before .before .before .before .before .before .before .before .before .before .before .before .before .before .before .before .before .before .before .below-two in
+    let start = c .before .before .before .before .before .before .before .before .before .before .before .before .before .before .before .before .before .before .before .before .before .before .before .before .before .before .before .before .before .before .before .before .before in
+    let test = c .before .before .before .before .before .before .before .before .before .before .before .before .before .before .before .before .before .before .before .before .before .before .before .before .if1 in
+    let run = c .before .before .before .before .before .before .before .before .before .before .before .before .before .before .before .before .before .before .before .before .before .before .before .least in
     let done = c .before .before .before .before .before .before .before .before .before .before .before .before .before .before .before .before .before .stream in (
-      stream-resolved _ _ _ _ _ _ _ _ _ _ (below .ensures) (start .pre .1 .1 .0) (test .left) (run .ensures .2) (done .ensures),
+      stream-resolved _ _ _ _ _ _ _ _ _ _ (start .pre .1 .1 .0) (test .left) (run .ensures .2) (done .ensures),
       c .before .before .before .before .build .ensures,
     )
 
@@ -72,7 +66,6 @@ resolve-stream-spec =
     returns
     sub-least
     least-requires
-    below-two-requires
     stream-requires
     build-requires
     same-length

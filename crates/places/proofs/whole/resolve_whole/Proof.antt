@@ -1,7 +1,7 @@
 use Prim.Native.Nat.{_-_, _≤_}
 use mathlib.Core.Path.{_≡_}
 use lib.ListN.{length}
-use Rattle.places.specs.Places.{Resolved}
+use Rattle.places.specs.Places.{belowRoot, Resolved}
 use borrow.Author.Needs.{needs}
 use Rattle.places.proofs.WholeReturns.{resolve-whole-cases}
 use Rattle.slots.proofs.Cases.{kept}
@@ -13,10 +13,10 @@ use Rattle.places.proofs.whole.put.Reads as put-reads
 use Rattle.places.proofs.whole.tree_indices.Reads as tree-indices-reads
 
 abbrev Inv-loop : tie.InvT-loop
-Inv-loop l parts symbols from part-slots symbol-slots g opens₀ closes₀ syms₀ k i₀ opens closes syms i = (length opens ≡ length opens₀) × (length closes ≡ length closes₀) × (length syms ≡ length syms₀) × Resolved parts symbols l from i opens closes syms
+Inv-loop l limit parts symbols from part-slots symbol-slots opens₀ closes₀ syms₀ k i₀ opens closes syms i = (length opens ≡ length opens₀) × (length closes ≡ length closes₀) × (length syms ≡ length syms₀) × Resolved (belowRoot limit parts symbols) l from i opens closes syms
 
 abbrev μ-loop : tie.MeasureT-loop
-μ-loop l parts symbols from part-slots symbol-slots g opens₀ closes₀ syms₀ k i₀ opens closes syms i = length opens₀ - i
+μ-loop l limit parts symbols from part-slots symbol-slots opens₀ closes₀ syms₀ k i₀ opens closes syms i = length opens₀ - i
 
 returns : tie.Need-returns Inv-loop μ-loop
 returns c = search (needs, resolve-whole-cases)
