@@ -9,7 +9,7 @@ use lib.Seq.{sets}
 use lib.Dec.{eqb}
 use borrow.Author.Tests.{eq-eqb, ne-eqb, le-leb, lt-leb}
 use Rattle.format.specs.Width.{partSize, spanSize, openAt, treeSize}
-use Rattle.format.specs.Part.{partWords, samePart}
+use Rattle.format.specs.Part.{partWords, partFrom, samePart}
 use Rattle.format.specs.MakeTables.{keyCount, liveAt, keyPlace, keyWord, keyPart, keyWords, alikeAt, limitOf}
 use Rattle.format.proofs.PartLaw.{part-from}
 use Rattle.format.proofs.KeyLaw.{alike-words, alike-part}
@@ -230,12 +230,15 @@ unfolding placeIn
 put-parts l s v a k o o₁ e q h = rw e (h ∙ ap (λ p. sets o (partSize * k) (partWords p)) (sym (part-at l s v a e q)))
 
 -- word after word
-pub part-stored : (l o o₁ o₂ o₃ : List ℕ) (from at : ℕ) → o₁ ≡ set o at (getD l from 0) → o₂ ≡ set o₁ (at + 1) (getD l (from + 1) 0)
-    → o₃ ≡ set o₂ (at + 2) (getD l (from + 2) 0) → o₃ ≡ sets o at (partWords (partIn l from))
-unfolding partIn
-part-stored l o o₁ o₂ o₃ from at h g f =
+pub words-stored : (o o₁ o₂ o₃ : List ℕ) (at a b c : ℕ) → o₁ ≡ set o at a → o₂ ≡ set o₁ (at + 1) b → o₃ ≡ set o₂ (at + 2) c
+    → o₃ ≡ sets o at (partWords (record { file = a; ast = b; context = c }))
+words-stored o o₁ o₂ o₃ at a b c h g f =
     let i : at + 1 ≡ suc at = omega arith in
     let j : at + 2 ≡ suc (at + 1) = omega arith in
     rw (← i, ← j, ← h, ← g) f
 
-pub ruleset key-cases = (store-out, none-at, count-none, count-symbols, count-parts, room-symbols, room-parts, place-symbols, place-parts, within-symbols, within-parts, live-ident, live-literal, live-neither, live-open, live-close, live-leaf, alike-first, alike-symbols, alike-second, alike-third, alike-all, slot-symbols, slot-parts, class-symbols, class-parts, in-all, in-none, in-class, class-is, class-not, limit-symbols, limit-parts, in-symbols, in-parts, put-symbols, put-parts, part-stored)
+pub part-stored : (l o o₁ : List ℕ) (from at : ℕ) → o₁ ≡ sets o at (partWords (partFrom (λ j. getD l j 0) from)) → o₁ ≡ sets o at (partWords (partIn l from))
+unfolding partIn
+part-stored l o o₁ from at h = h
+
+pub ruleset key-cases = (store-out, none-at, count-none, count-symbols, count-parts, room-symbols, room-parts, place-symbols, place-parts, within-symbols, within-parts, live-ident, live-literal, live-neither, live-open, live-close, live-leaf, alike-first, alike-symbols, alike-second, alike-third, alike-all, slot-symbols, slot-parts, class-symbols, class-parts, in-all, in-none, in-class, class-is, class-not, limit-symbols, limit-parts, in-symbols, in-parts, put-symbols, put-parts, words-stored, part-stored)

@@ -162,14 +162,23 @@ pub fn limit_of(symbols: bool) -> usize
     15
 }
 
+// Stores the words of a part.
+fn put_words(out: &mut [u32], at: usize, file: u32, ast: u32, context: u32)
+    requires { ⌜ at ≤ partSize * 4294967295 ⌝ }
+    ensures { λ _. ⌜ now (out .exit) ≡ sets (now (out .entry)) at
+        (partWords (record { file = file; ast = ast; context = context })) ⌝ }
+{
+    set_at(out, at, file);
+    set_at(out, at + 1, ast);
+    set_at(out, at + 2, context);
+}
+
 // Stores the part whose words begin at `from`.
 pub fn put_part(l: &[u32], from: usize, out: &mut [u32], at: usize)
     requires { ⌜ (from + partSize ≤ length (now l)) × (at ≤ partSize * 4294967295) ⌝ }
     ensures { λ _. ⌜ now (out .exit) ≡ sets (now (out .entry)) at (partWords (partIn (now (l .entry)) from)) ⌝ }
 {
-    set_at(out, at, l[from]);
-    set_at(out, at + 1, l[from + 1]);
-    set_at(out, at + 2, l[from + 2]);
+    put_words(out, at, l[from], l[from + 1], l[from + 2]);
 }
 
 // Stores key v as the k-th of a run.

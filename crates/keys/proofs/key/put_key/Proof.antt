@@ -8,43 +8,33 @@ use Rattle.keys.proofs.key.place_of.Reads as place-of-reads
 use Rattle.keys.proofs.key.put_part.Reads as put-part-reads
 use Rattle.keys.proofs.run.set_at.Reads as set-at-reads
 
--- src/key.rt:182:9
 place-of-requires : tie.Need-place-of-requires
 place-of-requires c κs = search (needs, key-cases)
 
--- src/key.rt:184:24
 mul-set-at : tie.Need-mul-set-at
 mul-set-at c = search (needs, key-cases)
 
--- src/key.rt:184:24
 shared-slice-read-set-at : tie.Need-shared-slice-read-set-at
 shared-slice-read-set-at c = search (needs, key-cases)
 
--- src/key.rt:184:9
 set-at-requires : tie.Need-set-at-requires
 set-at-requires c κs = search (needs, key-cases)
 
--- src/key.rt:185:9
 same-length : tie.Need-same-length
 same-length c = search (needs, key-cases)
 
--- src/key.rt:185:9
 returns : tie.Need-returns
 returns c = search (needs, key-cases)
 
--- src/key.rt:187:25
 mul-put-part : tie.Need-mul-put-part
 mul-put-part c = search (needs, key-cases)
 
--- src/key.rt:187:5
 put-part-requires : tie.Need-put-part-requires
 put-part-requires c κs = search (needs, key-cases)
 
--- src/key.rt:177:1
 same-length-2 : tie.Need-same-length-2
 same-length-2 c = search (needs, key-cases)
 
--- src/key.rt:177:1
 returns-2 : tie.Need-returns-2
 returns-2 c = search (needs, key-cases)
 

@@ -6,23 +6,18 @@ use Rattle.tables.proofs.make.put_root.Reads as reads
 use Rattle.tables.proofs.make.put_root.Lts as lts
 use Rattle.keys.proofs.key.put_part.Reads as put-part-reads
 
--- src/make.rt:34:5
 put-part-requires : tie.Need-put-part-requires
 put-part-requires c κs = search (needs, root-cases)
 
--- src/make.rt:35:32
 add-put-part : tie.Need-add-put-part
 add-put-part c = search (needs, root-cases)
 
--- src/make.rt:35:5
 put-part-requires-2 : tie.Need-put-part-requires-2
 put-part-requires-2 c κs = search (needs, root-cases)
 
--- src/make.rt:30:1
 same-length : tie.Need-same-length
 same-length c = search (needs, root-cases)
 
--- src/make.rt:30:1
 returns : tie.Need-returns
 returns c = search (needs, root-cases)
 
