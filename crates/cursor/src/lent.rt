@@ -101,7 +101,18 @@ pub fn bump_in(
         at (now (numbers .entry)) (now (counts .entry)) (now (places .entry))
         (r .answer) (r .at) (now (numbers .exit)) (now (counts .exit)) (now (places .exit)) ⌝ }
 {
-    let plan = plan_bump(b, trees, limits, parts, pair, symbols, at, numbers, counts, places);
+    let plan = plan_bump(
+        b,
+        trees,
+        limits,
+        parts,
+        pair,
+        symbols,
+        at,
+        numbers,
+        counts,
+        places,
+    );
     let answer = plan.answer;
     let change = plan.change;
     let next = apply(at, change, numbers, counts, places);
@@ -130,7 +141,18 @@ pub fn end_in(
         at (now (numbers .entry)) (now (counts .entry)) (now (places .entry))
         (r .answer) (r .at) (now (numbers .exit)) (now (counts .exit)) (now (places .exit)) ⌝ }
 {
-    let plan = plan_end(b, trees, limits, parts, pair, symbols, at, numbers, counts, places);
+    let plan = plan_end(
+        b,
+        trees,
+        limits,
+        parts,
+        pair,
+        symbols,
+        at,
+        numbers,
+        counts,
+        places,
+    );
     let answer = plan.answer;
     let change = plan.change;
     let next = apply(at, change, numbers, counts, places);
@@ -159,7 +181,18 @@ pub fn bump_or_end_in(
         at (now (numbers .entry)) (now (counts .entry)) (now (places .entry))
         (r .answer) (r .at) (now (numbers .exit)) (now (counts .exit)) (now (places .exit)) ⌝ }
 {
-    let plan = plan_bump_or_end(b, trees, limits, parts, pair, symbols, at, numbers, counts, places);
+    let plan = plan_bump_or_end(
+        b,
+        trees,
+        limits,
+        parts,
+        pair,
+        symbols,
+        at,
+        numbers,
+        counts,
+        places,
+    );
     let answer = plan.answer;
     let change = plan.change;
     let next = apply(at, change, numbers, counts, places);
@@ -175,10 +208,7 @@ fn not_sized(at: At) -> Moved
     ensures { λ r. ⌜ (r .answer ≡ answers.Refused (record { number = 1; tree = 0 })) × (r .at ≡ at) ⌝ }
 {
     Moved {
-        answer: Answer::Refused(Refusal {
-            number: 1,
-            tree: 0,
-        }),
+        answer: Answer::Refused(Refusal { number: 1, tree: 0 }),
         at: at,
     }
 }
@@ -202,7 +232,18 @@ pub fn bump(
     }
     let limits = own_limits(parts.len() / PART_WORDS, symbols.len());
     let pair = &parts[PART_WORDS * limits.limit..];
-    bump_in(b, trees, limits, parts, pair, symbols, at, numbers, counts, places)
+    bump_in(
+        b,
+        trees,
+        limits,
+        parts,
+        pair,
+        symbols,
+        at,
+        numbers,
+        counts,
+        places,
+    )
 }
 
 pub fn end(
@@ -224,7 +265,18 @@ pub fn end(
     }
     let limits = own_limits(parts.len() / PART_WORDS, symbols.len());
     let pair = &parts[PART_WORDS * limits.limit..];
-    end_in(b, trees, limits, parts, pair, symbols, at, numbers, counts, places)
+    end_in(
+        b,
+        trees,
+        limits,
+        parts,
+        pair,
+        symbols,
+        at,
+        numbers,
+        counts,
+        places,
+    )
 }
 
 pub fn bump_or_end(
@@ -246,5 +298,16 @@ pub fn bump_or_end(
     }
     let limits = own_limits(parts.len() / PART_WORDS, symbols.len());
     let pair = &parts[PART_WORDS * limits.limit..];
-    bump_or_end_in(b, trees, limits, parts, pair, symbols, at, numbers, counts, places)
+    bump_or_end_in(
+        b,
+        trees,
+        limits,
+        parts,
+        pair,
+        symbols,
+        at,
+        numbers,
+        counts,
+        places,
+    )
 }

@@ -45,7 +45,14 @@ fn refused(number: u32, tree: u32) -> Answer
 }
 
 // The tree that the cursor stands at.
-fn tree_here(b: &[u8], limits: Limits, parts: &[u32], pair: &[u32], symbols: &[u32], at: At) -> Answer
+fn tree_here(
+    b: &[u8],
+    limits: Limits,
+    parts: &[u32],
+    pair: &[u32],
+    symbols: &[u32],
+    at: At,
+) -> Answer
     requires { ⌜ Whole limits (now parts) (now pair) (now symbols) ⌝ }
     ensures { λ r. ⌜ Here (now (b .entry))
         (modeOf limits (now (parts .entry)) (now (pair .entry)) (now (symbols .entry))) at r ⌝ }
@@ -154,7 +161,14 @@ fn second(
 }
 
 // If the first is no leaf, the second is not read.
-fn first(b: &[u8], limits: Limits, parts: &[u32], pair: &[u32], symbols: &[u32], at: At) -> TwoLeaves
+fn first(
+    b: &[u8],
+    limits: Limits,
+    parts: &[u32],
+    pair: &[u32],
+    symbols: &[u32],
+    at: At,
+) -> TwoLeaves
     requires { ⌜ Whole limits (now parts) (now pair) (now symbols) ⌝ }
     requires { ⌜ at .number + 1 < 4294967296 ⌝ }
     ensures { λ r. ⌜ First (now (b .entry))
@@ -221,7 +235,18 @@ pub fn token_tree<'a>(
     }
     let limits = own_limits(parts.len() / PART_WORDS, symbols.len());
     let pair = &parts[PART_WORDS * limits.limit..];
-    token_tree_in(b, trees, limits, parts, pair, symbols, at, numbers, counts, places)
+    token_tree_in(
+        b,
+        trees,
+        limits,
+        parts,
+        pair,
+        symbols,
+        at,
+        numbers,
+        counts,
+        places,
+    )
 }
 
 pub fn peek_two_leaves<'a>(
@@ -242,5 +267,16 @@ pub fn peek_two_leaves<'a>(
     }
     let limits = own_limits(parts.len() / PART_WORDS, symbols.len());
     let pair = &parts[PART_WORDS * limits.limit..];
-    peek_two_leaves_in(b, trees, limits, parts, pair, symbols, at, numbers, counts, places)
+    peek_two_leaves_in(
+        b,
+        trees,
+        limits,
+        parts,
+        pair,
+        symbols,
+        at,
+        numbers,
+        counts,
+        places,
+    )
 }

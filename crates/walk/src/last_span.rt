@@ -136,10 +136,7 @@ pub fn last_span(b: &[u8], trees: u32, parts: &[u32], symbols: &[u32], walk: Wal
         (walkOf walk) ⌝ }
 {
     if !sized(trees, parts, symbols) {
-        return LastSpan::Refused(Refusal {
-            number: 1,
-            tree: 0,
-        });
+        return LastSpan::Refused(Refusal { number: 1, tree: 0 });
     }
     let limits = own_limits(parts.len() / PART_WORDS, symbols.len());
     let pair = &parts[PART_WORDS * limits.limit..];
