@@ -11,7 +11,7 @@ use Rattle.format.specs.Test.{if_then_else_}
 use Rattle.format.specs.Verdict.{passed, refused, eachFrom}
 use Rattle.format.specs.Width.{partSize, openAt, closeAt, treeSize}
 use Rattle.format.specs.Part.{Part, samePart, partAt}
-use Rattle.format.specs.MakeTables.{openPart, closePart}
+use Rattle.format.specs.WordList.{openPart, closePart}
 use Rattle.format.specs.Tree.{Raw, punct, ident, literal, subtree}
 use Rattle.format.specs.Tables.{Mode, limits, indexedBelow}
 use Rattle.format.specs.WordList.{wordOf, rawFrom, listCount}

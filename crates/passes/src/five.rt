@@ -14,7 +14,7 @@ ghost use mathlib.Core.Path.{_≡_};
 ghost use mathlib.Core.Bool.{true, _&&_};
 ghost use Prim.Native.Nat.{_+_, _*_, _<_, _≤_};
 ghost use lib.ListN.{length};
-ghost use Rattle.format.specs.MakeTables.{openPart, closePart};
+ghost use Rattle.format.specs.WordList.{openPart, closePart};
 ghost use Rattle.format.specs.Part.{samePart, partAt};
 ghost use Rattle.format.specs.Tables.{indexedBelow};
 ghost use Rattle.format.specs.Width.{partSize};
