@@ -6,7 +6,7 @@ use lib.ListN.{length, take, drop}
 use Rattle.format.specs.Check.{listing}
 use Rattle.format.specs.Buffer.{wordShape, ownReader, bufferCheck}
 use Rattle.format.specs.Write.{workWords}
-use Rattle.format.specs.WordList.{wordOf, thirteen, wordsUpTo, listCount}
+use Rattle.format.specs.WordList.{wordOf, treeList, wordsUpTo, listCount}
 use Rattle.format.specs.Writer.{trees, packed}
 use Rattle.tree.specs.Refusal.{verdictAnswer}
 use Rattle.tree.specs.declared.refusal.Verdict.{Verdict}
@@ -20,7 +20,7 @@ pub record Encodes (parts symbols l b : List ℕ) : Type 0 where
   -- what `check_buffer` answers on them, with the list's tree count
   pub checks : (r : Verdict) → r ≡ verdictAnswer (bufferCheck b (listCount l) parts symbols) → r ≡ Passed
   -- "reading those bytes gives that list back": tree by tree its list words, and all of them
-  pub reads : (n : ℕ) → n < listCount l → listing wordShape (ownReader b (listCount l) parts symbols) .tree n ≡ thirteen (wordOf l n)
+  pub reads : (n : ℕ) → n < listCount l → listing wordShape (ownReader b (listCount l) parts symbols) .tree n ≡ treeList (wordOf l n)
   pub whole : wordsUpTo (listing wordShape (ownReader b (listCount l) parts symbols) .tree) (listCount l) ≡ l
 
 -- n bytes are written: the output and the work words, whose rest stays.

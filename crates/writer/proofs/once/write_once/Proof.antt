@@ -14,7 +14,7 @@ resolve-requires c κs = (search (needs, write-once-cases), (search (needs, writ
 -- src/once.rt:153:5
 write-run-requires : tie.Need-write-run-requires
 write-run-requires c κs =
-    let p = c .before .before .before .before .before .before .before .before .before .before .before .before .before .before .before .before .before .before .before .before .before .before .before .before .before .before .before .before .before .before .before .pre in
+    let p = c .before .before .before .before .before .before .before .before .before .before .before .before .before .before .before .before .before .before .before .before .before .before .before .before .before .before .before .before .before .before .before .before .pre in
     let q = c .before .before .before .before .before .before .before .before .before .before .before .before .before .before .before .resolve .ensures in
     let r = c .before .before .before .before .before .before .before .before .before .before .before .before .before .before .before .resolve .kept in
     (search (needs, write-once-cases, p, q, r), search (needs, write-once-cases, p, q, r))

@@ -8,7 +8,7 @@ use Rattle.list.proofs.rows.list_sized.Reads as list-sized-reads
 use Rattle.list.proofs.sized.list_rules.Reads as list-rules-reads
 use Rattle.writer.proofs.refuse.refuse.Reads as refuse-reads
 use Rattle.tree.proofs.sizes.tables_sized.Reads as tables-sized-reads
-use Rattle.writer.proofs.write.write_ruled.Reads as write-ruled-reads
+use Rattle.writer.proofs.write.write_own.Reads as write-own-reads
 
 -- src/encode.rt:236:9
 list-sized-requires : tie.Need-list-sized-requires
@@ -43,8 +43,8 @@ enum-told : tie.Need-enum-told
 enum-told c = search (needs, list-cases)
 
 -- src/encode.rt:243:28
-write-ruled-requires : tie.Need-write-ruled-requires
-write-ruled-requires c κs = search (needs, list-cases)
+write-own-requires : tie.Need-write-own-requires
+write-own-requires c κs = search (needs, list-cases)
 
 -- src/encode.rt:244:26
 enum-known-at : tie.Need-enum-known-at
@@ -78,7 +78,7 @@ encode-list-spec =
     returns-2
     list-rules-requires
     enum-told
-    write-ruled-requires
+    write-own-requires
     enum-known-at
     same-length
     same-length-2

@@ -27,7 +27,7 @@ returns c = search (needs, finish-cases)
 -- src/encode.rt:53:5
 put-list-requires : tie.Need-put-list-requires
 put-list-requires c κs =
-    let p = c .before .before .before .before .before .before .before .before .before .before .before .before .before .before .before .before .before .before .before .pre in
+    let p = c .before .before .before .before .before .before .before .before .before .before .before .before .before .before .before .before .before .before .before .before .pre in
     (search (needs, finish-cases, p), (search (needs, finish-cases, p), (search (needs, finish-cases, p), search (needs, finish-cases, p))))
 
 -- src/encode.rt:32:1
@@ -57,7 +57,7 @@ same-length-6 c = search (needs, finish-cases)
 -- src/encode.rt:32:1
 returns-2 : tie.Need-returns-2
 returns-2 c =
-    let p = c .before .before .before .before .before .before .before .before .before .before .before .before .before .before .before .before .before .before .before .before .before .before .before .before .before .before .before .before .before .before .before .before .pre in
+    let p = c .before .before .before .before .before .before .before .before .before .before .before .before .before .before .before .before .before .before .before .before .before .before .before .before .before .before .before .before .before .before .before .before .before .pre in
     search (needs, finish-cases, p) depth 2
 
 pub finish-spec : {M : Type 1} → statement M

@@ -55,11 +55,11 @@ enum-told c = search (needs, built-cases)
 -- src/encode.rt:135:28
 write-passed-requires : tie.Need-write-passed-requires
 write-passed-requires c κs =
-    let p = c .before .before .before .before .before .before .before .before .before .before .before .before .before .before .before .before .before .before .before .before .before .before .before .before .before .before .before .before .before .before .before .before .before .before .before .before .pre in
+    let p = c .before .before .before .before .before .before .before .before .before .before .before .before .before .before .before .before .before .before .before .before .before .before .before .before .before .before .before .before .before .before .before .before .before .before .before .before .before .pre in
     let q = c .before .before .before .before .before .before .before .before .before .before .before .before .before .before .before .before .before .before .before .row-five .ensures in
     let r = c .before .before .before .before .before .before .before .before .before .before .before .before .before .before .before .before .before .before .before .row-five .kept in
     let e = c .before .before .before .before .before .before .before .enum-told .given .1 in
-    (five-passed _ _ _ (p .0) _ (q .0) e, search (needs, built-cases, p, q, r))
+    (five-passed _ _ (p .0) _ (q .0) e, search (needs, built-cases, p, q, r))
 
 -- src/encode.rt:147:26
 enum-known-at : tie.Need-enum-known-at

@@ -30,8 +30,8 @@ slice-aggregate-write-with-5 c = search (needs, class-cases)
 -- src/encode.rt:141:5
 write-with-requires : tie.Need-write-with-requires
 write-with-requires c κs =
-    let w = c .before .before .before .before .before .before .before .before .before .before .before .before .pre in
-    (w, zeros-lent _ _ _ w 65536 131072 8192 (omega arith) (omega arith) (omega arith) (omega arith) (omega arith))
+    let w = c .before .before .before .before .before .before .before .before .before .before .before .before .before .pre in
+    (w, zeros-lent _ _ w 65536 131072 8192 (omega arith) (omega arith) (omega arith) (omega arith) (omega arith))
 
 -- src/encode.rt:132:1
 same-length : tie.Need-same-length

@@ -30,8 +30,8 @@ slice-aggregate-write-with-5 c = search (needs, class-cases)
 -- src/encode.rt:117:5
 write-with-requires : tie.Need-write-with-requires
 write-with-requires c κs =
-    let w = c .before .before .before .before .before .before .before .before .before .before .before .before .pre in
-    (w, zeros-lent _ _ _ w 2048 2048 1024 (omega arith) (omega arith) (omega arith) (omega arith) (omega arith))
+    let w = c .before .before .before .before .before .before .before .before .before .before .before .before .before .pre in
+    (w, zeros-lent _ _ w 2048 2048 1024 (omega arith) (omega arith) (omega arith) (omega arith) (omega arith))
 
 -- src/encode.rt:108:1
 same-length : tie.Need-same-length

@@ -14,7 +14,7 @@ build-requires c κs = search (needs, with-cases)
 -- src/encode.rt:124:5
 write-built-requires : tie.Need-write-built-requires
 write-built-requires c κs =
-    let p = c .before .before .before .before .before .before .before .before .before .before .before .before .before .before .before .before .before .before .before .before .before .before .before .before .pre in
+    let p = c .before .before .before .before .before .before .before .before .before .before .before .before .before .before .before .before .before .before .before .before .before .before .before .before .before .pre in
     let q = c .before .before .before .before .before .before .before .before .before .before .before .build .ensures in
     let r = c .before .before .before .before .before .before .before .before .before .before .before .build .kept in
     (search (needs, with-cases, p, q, r), search (needs, with-cases, p, q, r))
