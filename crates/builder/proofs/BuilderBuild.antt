@@ -7,19 +7,16 @@ use native.Mathlib.Omega.{arith}
 use borrow.Author.Tests.{le-leb, lt-leb, eq-eqb, eqb-true}
 use lib.Dec.{eqb}
 use lib.ListN.{length, take, drop, getD}
-use Rattle.format.specs.Tables.{ownMode}
-use Rattle.format.specs.WordList.{treeList}
+use Rattle.format.specs.Tables.{ownMode, ownTables}
+use Rattle.format.specs.WordList.{treeList, wordOf, wordFields, listCount, given, listSized, rowTwo, listRules, listRows}
 use Rattle.format.specs.Width.{treeSize}
 use Rattle.format.specs.Part.{WordSpan, spanList}
 use Rattle.format.specs.Test.{if_then_else_}
 use Rattle.format.specs.Verdict.{passed, _andThen_, rule, each}
 use Rattle.format.specs.Plain.{Listing, endOf, sub}
 use Rattle.format.specs.Nest.{nest}
 use Rattle.format.specs.Buffer.{wordShape}
-use Rattle.format.specs.Tables.{ownTables}
-use Rattle.format.specs.WordList.{wordOf, thirteen, wordFields, listCount, given, listSized, rowTwo, listRules, listRows}
 use Rattle.format.specs.Writer.{rowFive, listVerdict}
-use Rattle.format.specs.Root.{WordSpan, fiveWords}
 use Rattle.format.specs.Builder.{holdingAll, Builder, subtreeWords, wordIn, subAt, endAt, disagrees, new, Step, builderRun, builderFrom, isAmong, buildList, innerList, oneInside, skipList, ready, written, ifReady, build, buildSkipTopSubtree}
 use Rattle.builder.specs.Frames.{Trees, flat, Frame, Model, whole, begun, laid, modelRun, newModel, modelList, modelFrom, isOne, modelSkip}
 use Rattle.format.proofs.Each.{and-left, and-right, true-false, both, rule-passed, all-each}

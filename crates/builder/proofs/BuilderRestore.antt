@@ -8,12 +8,12 @@ use borrow.Author.Tests.{not-true, not-false, le-leb, le-ltb, eq-eqb, eqb-false,
 use lib.Dec.{eqb, ltb, leb}
 use lib.ListN.{length, take, getD}
 use lib.Seq.{getD-take}
 use Rattle.format.specs.Width.{closeAt, treeSize}
 use Rattle.format.specs.Part.{WordSpan, spanList}
 use Rattle.format.specs.Verdict.{Verdict, passed, refused, _andThen_, rule}
 use Rattle.format.specs.Word.{put}
 use Rattle.format.specs.WordList.{wordOf, listCount}
-use Rattle.format.specs.Root.{WordSpan, rangeFits, fiveWords}
+use Rattle.format.specs.Root.{rangeFits}
 use Rattle.format.specs.Builder.{Builder, subtreeWords, leafWords, leafFits, subAt, endAt, openFit, disagrees, new, agreed, room, addTree, closeLast, butLast, openBefore, isAmong, pointVerdict, restorePoint, reachesPast, pointFits, restoreVerdict, restored, Step, push, openSubtree, closeSubtree, restore, stepVerdict, stepBuilder, stepWords, builderStep, builderRun, builderFrom}
 use Rattle.builder.specs.Frames.{Model, modelRun, keptIf, accepted, modelFrom, staysInside}
 use Rattle.format.proofs.Each.{and₄, true-false, both, rule-passed, all-each}

@@ -8,14 +8,13 @@ use borrow.Author.Tests.{not-true, le-leb, lt-ltb, le-ltb, ne-eqb, ltb-true, ltb
 use lib.Dec.{eqb, ltb, leb}
 use lib.ListN.{length, take, drop, getD, length-append, take-append-drop}
 use lib.Seq.{take-at, take-append-le, length-take-le}
-use Rattle.format.specs.WordList.{treeList}
+use Rattle.format.specs.WordList.{treeList, wordOf, listCount}
 use Rattle.format.specs.Width.{closeAt, treeSize}
 use Rattle.format.specs.Part.{WordSpan, spanList}
 use Rattle.format.specs.Test.{if_then_else_}
 use Rattle.format.specs.Verdict.{Verdict, passed, refused, _andThen_, contents, rule, eachFrom}
 use Rattle.format.specs.Word.{put}
-use Rattle.format.specs.WordList.{wordOf, thirteen, listCount}
-use Rattle.format.specs.Root.{WordSpan, rangeFits, fiveWords}
+use Rattle.format.specs.Root.{rangeFits}
 use Rattle.format.specs.Builder.{Builder, Point, subtreeWords, leafWords, leafFits, subAt, endAt, openFit, disagrees, noBuilder, newBuilder, new, agreed, room, pushVerdict, openVerdict, closeVerdict, addTree, closeTree, closeLast, butLast, openBefore, isAmong, reachesPast, pointFits, restoreVerdict, restored, Step, push, openSubtree, closeSubtree, restore, stepVerdict, stepBuilder, stepWords, builderStep, builderRun}
 use Rattle.builder.specs.Frames.{Trees, flat, Frame, Model, whole, begun, withClosing, laid, added, closeFrame, cut, modelStep, modelRun, newModel, accepted}
 use Rattle.format.proofs.Each.{and-left, and-right, and₃, both, rule-passed, each-all}

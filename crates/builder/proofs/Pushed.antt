@@ -11,7 +11,7 @@ use Rattle.format.specs.Test.{if_then_else_}
 use Rattle.format.specs.Width.{treeSize}
 use Rattle.format.specs.WordList.{wordOf, rawFrom, wordFields}
 use Rattle.format.specs.Builder.{wordIn, leafFits, leafWords}
-use Rattle.format.proofs.Trees.{words-at}
+use Rattle.builder.proofs.Trees.{words-at}
 use Rattle.tree.specs.Types.{treeWordsOf}
 use Rattle.tree.specs.Words.{treeFrom, wordsAnswer}
 use Rattle.tree.proofs.WordsAgain.{words-of-tree}

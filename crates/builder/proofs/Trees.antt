@@ -5,10 +5,9 @@ use mathlib.Core.List.{List, [], _∷_, _++_, append-assoc}
 use native.Mathlib.Omega.{arith}
 use lib.ListN.{length, take, drop, getD, length-append, length-drop, take-append-drop}
 use lib.Seq.{take-at, drop-at, drop-append-le, take-append-le, getD-drop, drop-cons, take-take, drop-drop, length-take-le}
-use Rattle.format.specs.WordList.{treeList}
+use Rattle.format.specs.WordList.{treeList, wordOf}
 use Rattle.format.specs.Width.{treeSize}
 use Rattle.format.specs.Word.{put}
-use Rattle.format.specs.WordList.{wordOf, thirteen}
 use Rattle.format.specs.Builder.{wordIn}
 use Rattle.builder.specs.Frames.{Trees, flat}
 

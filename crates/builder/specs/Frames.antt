@@ -5,11 +5,10 @@ use mathlib.Core.List.{List, [], _∷_, _++_}
 use mathlib.Core.Bool.{Bool, true, false, _&&_}
 use lib.ListN.{length, take}
 use lib.Dec.{leb, eqb}
 use Rattle.format.specs.Part.{WordSpan}
 use Rattle.format.specs.Test.{if_then_else_}
 use Rattle.format.specs.Verdict.{Verdict, passed, refused}
 use Rattle.format.specs.Buffer.{wordShape}
-use Rattle.format.specs.Root.{WordSpan}
 use Rattle.format.specs.Builder.{Builder, subtreeWords, leafWords, Step, push, openSubtree, closeSubtree, restore, new, builderStep}
 
 -- trees in pre-order, each by its words
