@@ -14,7 +14,7 @@ use Rattle.format.specs.WordList.{openPart, closePart, listCount, listRo
 use Rattle.format.specs.Distinct.{news, times}
 use Rattle.format.specs.Order.{ordered}
 
--- ---- the keys, "root excluded, open before close". `true` is the symbol table, `false` the part table
+-- ---- the keys, "Root excluded, open before close". `true` is the symbol table, `false` the part table
 
 -- how many numbers there are: of symbols one for each tree below the root, of parts two
 unfoldable pub keyCount : List ℕ → Bool → ℕ

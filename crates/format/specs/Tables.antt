@@ -1,4 +1,4 @@
--- The tables as a reader sees them: row 1 on their sizes, row 8 on a tree's indices, and a tree's list words by their entries.
+-- The tables: row 1 on their sizes, row 8 on a tree's indices, a tree's list words by their entries, and the table mode that reader and writer share.
 use Prim.Native.Nat.{ℕ, _+_, _*_, _-_, _/_, _%_}
 use mathlib.Core.Bool.{Bool, false, _&&_}
 use mathlib.Core.List.{List, [], _∷_, _++_}
@@ -69,7 +69,7 @@ pub record Mode : Type 0 where
   -- as in `Limits`
   pub limit : ℕ
   pub root : ℕ
-  -- the parts below the root; the root's two; the symbols
+  -- a run whose first `limit` parts are those below the root, whatever stands behind them; the root's two parts; the symbols
   pub parts : List ℕ
   pub pair : List ℕ
   pub symbols : List ℕ
@@ -78,7 +78,7 @@ module _ (M : Mode) where
   abbrev pub limits : Limits
   limits = record { limit = M .limit; root = M .root; symbols = length (M .symbols) }
 
-  -- the part that tree n means by an index
+  -- the part that tree n means by an index, which row 8 has passed: a root's is `root` or the next
   abbrev pub entryAt : ℕ → ℕ → Part
   entryAt n i = if eqb n 0 then partAt (M .pair) (i - M .root) else partAt (M .parts) i
 
