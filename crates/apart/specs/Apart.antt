@@ -8,11 +8,12 @@ use Rattle.format.specs.Width.{partSize}
 use Rattle.format.specs.Tables.{Mode}
 use Rattle.walk.specs.Source.{treesSized}
 
--- row 1: no more parts and symbols than document 01 allows, and the runs have what is stated
+-- row 1: beside the root's two no more parts than 2,097,152, no more symbols than document 01 allows, and the runs have what is stated
 unfoldable pub sizedApart : ℕ → List ℕ → List ℕ → List ℕ → Bool
 sizedApart count parts pair symbols =
     leb count 2097152 && leb (partSize * count) (length parts) && eqb (length pair) (2 * partSize) && leb (length symbols) 1048576
 
+-- the root's index may be one that stands for another part below the root: the tree's number tells which is meant
 abbrev pub apartMode : ℕ → ℕ → List ℕ → List ℕ → List ℕ → Mode
 apartMode count root parts pair symbols =
     record { sized = sizedApart count parts pair symbols; limit = count; root = root; parts = parts; pair = pair; symbols = symbols }

@@ -32,7 +32,7 @@ listRead b k parts symbols = listing wordShape (ownReader b k parts symbols)
 abbrev pub IsFresh : ℕ → Walk → Type 0
 IsFresh k w = walkOf w ≡ record { place = 0; number = 0; left = k }
 
--- "every list of walk steps and every list of cursor calls from a fresh state answers exactly as the plain machine over the list does, refusals and
+-- Demand 3: "every list of walk steps and every list of cursor calls from a fresh state answers exactly as the plain machine over the list does, refusals and
 -- states included". Ruled out: a walk that repeats the root or reports none; a cursor that is right for one call and loses an open subtree in a list of them
 pub record AsPlain (b : List ℕ) (k : ℕ) (parts symbols : List ℕ) : Type 0 where
   -- `advance` and `advance_skip_subtree`

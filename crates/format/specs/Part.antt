@@ -48,6 +48,6 @@ noSpan = record { part = record { file = 0; ast = 0; context = 0 }; start = 0; l
 abbrev pub sameSpan : WordSpan → WordSpan → Bool
 sameSpan s t = samePart (s .part) (t .part) && eqb (s .start) (t .start) && eqb (s .len) (t .len)
 
--- the same as it is packed, with the index of its part
+-- a span by its words as it is packed, with the index of its part
 abbrev pub indexed : ℕ → WordSpan → Span
 indexed i s = record { index = i; start = s .start; len = s .len }
