@@ -18,10 +18,12 @@ mod buffers;
 mod lists;
 mod packing;
 mod text;
+mod tokens;
 
 fn main() {
     let mut text = text::Text::default();
     packing::run(&mut text);
     lists::run(&mut text);
+    tokens::run(&mut text);
     print!("{}", text.ended());
 }

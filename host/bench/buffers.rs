@@ -50,6 +50,11 @@ impl Buffer {
     pub fn lent(&self) -> Lent<'_> {
         Lent { bytes: self.top.bytes(), trees: self.trees, parts: &self.parts, symbols: &self.symbols }
     }
+
+    /// The host's check of the bundle.
+    pub fn check(&self) {
+        assert_eq!(unsafe { tt_check_bundle(self.bundle.as_ptr(), self.bundle.len()) }, 0);
+    }
 }
 
 pub struct Case {
@@ -63,12 +68,11 @@ impl Case {
     }
 }
 
-/// Every size with few and many table entries, and with starts that wrap or grow.
-pub fn cases() -> impl Iterator<Item = Case> {
-    let sizes = [(1_000, 300), (30_000, 1), (200_000, 1), (1_048_576, 1)];
+/// Every size, by how many lists of it, with few and many table entries, and with starts that wrap or grow.
+pub fn cases(sizes: &[(usize, u64)]) -> impl Iterator<Item = Case> {
     let tables = [("few", 12, 400), ("many", 20_000, 60_000)];
     let starts = [("wrap", 60_000), ("grow", u32::MAX)];
-    sizes.into_iter().flat_map(move |(trees, lists)| {
+    sizes.iter().flat_map(move |&(trees, lists)| {
         tables.into_iter().flat_map(move |(entries, parts, symbols)| {
             starts.into_iter().map(move |(start, wrap)| Case {
                 name: format!("{trees} trees, {entries} entries, starts {start}"),
@@ -91,11 +95,7 @@ pub fn check(case: &Case) {
     short_row(
         &format!("check, {}", case.name),
         case.trees(),
-        || {
-            for b in &case.buffers {
-                assert_eq!(unsafe { tt_check_bundle(b.bundle.as_ptr(), b.bundle.len()) }, 0);
-            }
-        },
+        || case.buffers.iter().for_each(Buffer::check),
         || case.buffers.iter().for_each(|b| source_walk(&b.top)),
     );
     if case.name.ends_with("few entries, starts wrap") {

@@ -12,6 +12,7 @@ mod buffers;
 mod builders;
 mod list;
 mod lists;
+mod replace;
 mod timing;
 mod tree;
 mod walks;
@@ -23,5 +24,6 @@ fn main() {
     tree::trees();
     lists::run();
     walks::run();
+    replace::run();
     builders::run();
 }

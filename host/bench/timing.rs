@@ -30,6 +30,11 @@ pub fn short_row(what: &str, units: usize, ours: impl FnMut(), mut source: impl 
     timed(what, units, 5, 250, ours, || (), |()| source())
 }
 
+/// Whether another run is due: so many at least, and more while there is time.
+fn due(runs: usize, least: usize, begun: Instant, millis: u128) -> bool {
+    runs < least || (runs < 200 && begun.elapsed().as_millis() < millis)
+}
+
 fn timed<T>(
     what: &str,
     units: usize,
@@ -45,7 +50,7 @@ fn timed<T>(
     let (mut a, mut b) = (f64::MAX, f64::MAX);
     let begun = Instant::now();
     let mut runs = 0;
-    while runs < least || (runs < 200 && begun.elapsed().as_millis() < millis) {
+    while due(runs, least, begun, millis) {
         let t = now();
         ours();
         a = a.min(now() - t);
@@ -55,7 +60,45 @@ fn timed<T>(
         b = b.min(now() - t);
         runs += 1;
     }
-    let n = units as f64;
-    println!("| {what} | {:.2} | {:.2} | {:.2} |", a / n, b / n, a / b);
+    printed(what, units, a, b);
     true
+}
+
+fn printed(what: &str, units: usize, ours: f64, source: f64) {
+    let n = units as f64;
+    println!("| {what} | {:.2} | {:.2} | {:.2} |", ours / n, source / n, ours / source);
+}
+
+/// Two rows: ours beside the source's, then beside the source's and a part of ours that the source has not, by its name. The source works in
+/// place: what it works on is made and given up outside the time.
+pub fn rows_with<T>(
+    what: [&str; 2],
+    units: usize,
+    mut ours: impl FnMut(),
+    (part_name, mut part): (&str, impl FnMut()),
+    mut setup: impl FnMut() -> T,
+    mut source: impl FnMut(&mut T),
+) {
+    let [name, of] = what;
+    if !asked(&format!("{name}, {of}")) {
+        return;
+    }
+    let (mut a, mut b, mut c) = (f64::MAX, f64::MAX, f64::MAX);
+    let begun = Instant::now();
+    let mut runs = 0;
+    while due(runs, 9, begun, 1000) {
+        let t = now();
+        ours();
+        a = a.min(now() - t);
+        let mut input = setup();
+        let t = now();
+        source(&mut input);
+        b = b.min(now() - t);
+        let t = now();
+        part();
+        c = c.min(now() - t);
+        runs += 1;
+    }
+    printed(&format!("{name}, {of}"), units, a, b);
+    printed(&format!("{name} beside the source's and {part_name} ({:.2}), {of}", c / units as f64), units, a, b + c);
 }

@@ -206,7 +206,7 @@ fn through_c(case: &Case) {
 }
 
 pub fn run() {
-    for case in cases() {
+    for case in cases(&[(1_000, 300), (30_000, 1), (200_000, 1), (1_048_576, 1)]) {
         check(&case);
         whole(&case);
         if case.name.ends_with("few entries, starts wrap") {

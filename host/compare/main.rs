@@ -11,8 +11,10 @@ mod plain;
 mod plain_buffer;
 mod plain_builder;
 mod plain_list;
+mod plain_replace;
 mod proved;
 mod random;
+mod replace;
 mod roots;
 mod source_builder;
 mod stack;
@@ -28,7 +30,7 @@ fn main() {
     let many: u64 = std::env::args().nth(1).map_or(1, |x| x.parse().expect("how many times the usual number"));
     // all parts are run, unless a word is given that their names must hold
     let word = std::env::args().nth(2).unwrap_or_default();
-    let parts: [(&str, &dyn Fn(&mut Tally)); 19] = [
+    let parts: [(&str, &dyn Fn(&mut Tally)); 24] = [
         ("spans and symbols written", &|t| pack::write(t)),
         ("spans and symbols read", &|t| pack::read(t)),
         ("trees written", &|t| tree::write(t, 1_000_000 * many)),
@@ -44,6 +46,11 @@ fn main() {
         ("cursors", &|t| cursors::run(t, 40_000 * many)),
         ("lists of calls beside the plain machine", &|t| machine::run(t, 40_000 * many)),
         ("roots rewritten", &|t| roots::run(t, 40_000 * many)),
+        ("leaves exchanged, every small list", &|t| replace::every_small_list(t)),
+        ("leaves exchanged, random lists", &|t| replace::random(t, 40_000 * many)),
+        ("leaves exchanged, bad ones", &|t| replace::bad_leaves(t)),
+        ("leaves exchanged, every length of a lent run", &|t| replace::every_length(t)),
+        ("leaves exchanged at the limits of sizes", &|t| replace::limits(t)),
         ("builders, every script of few steps", &|t| builders::every_script(t, if many < 10 { 6 } else { 7 })),
         ("builders, random scripts", &|t| builders_random::scripts(t, 100_000 * many)),
         ("builders, invented", &|t| builders_random::invented_builders(t, 100_000 * many)),

@@ -40,7 +40,8 @@ impl Maker {
         }
     }
 
-    fn leaf(&mut self, span: u64) -> [u32; 13] {
+    /// A leaf whose span has so many bytes, where its part's index does not ask for more.
+    pub fn leaf(&mut self, span: u64) -> [u32; 13] {
         let head = match self.r.below(8) {
             0..3 => [0, self.r.near(&[0, 127], 127) as u32, self.r.below(3) as u32],
             3 => [0, self.r.pick(&[128, 0xD7FF, 0xE000, 0x10FFFF]), self.r.below(3) as u32],

@@ -1,4 +1,4 @@
-//! The proved functions, through the static library of the crate `export`.
+//! The proved functions, through the static libraries of the crates `export` and `store`.
 
 /// A reply at or above this is a refusal; its number is what lies above.
 pub const REFUSED: u64 = 1 << 63;
@@ -92,6 +92,19 @@ mod raw {
             close_index: u32, close_start: u32, close_len: u32,
             count: u32, kind: u32, children: u32,
         ) -> u64;
+        pub fn tt_set_token(
+            b: *const u8, len: usize, trees: u32,
+            parts: *const u32, part_words: usize,
+            symbols: *const u32, symbol_words: usize,
+            number: u32, leaf: *const u32,
+            list: *mut u32, list_words: usize,
+            tables: *mut u32, table_words: usize,
+            counts: *mut u32, count_words: usize,
+            out: *mut u8, out_len: usize,
+            out_parts: *mut u32, out_part_words: usize,
+            out_symbols: *mut u32, out_symbol_words: usize,
+            told: *mut usize,
+        ) -> u32;
     }
 }
 
@@ -259,6 +272,43 @@ pub fn set_spans(bytes: &mut [u8], trees: u32, parts: &mut [u32], symbols: &[u32
         )
     };
     list_reply(reply).map(|_| ())
+}
+
+// ---- one leaf exchanged
+
+/// What is lent to be written: three runs of work words, for the list, for the tables, for counts and sizes; three outputs.
+#[derive(Clone, PartialEq, Eq)]
+pub struct Runs {
+    pub work: [Vec<u32>; 3],
+    pub bytes: Vec<u8>,
+    pub parts: Vec<u32>,
+    pub symbols: Vec<u32>,
+}
+
+/// How many work words so many trees need, by the run.
+pub fn work_words(trees: usize) -> [usize; 3] {
+    [16, 10, 6].map(|n| n * trees + n)
+}
+
+/// A leaf by its list words. The answer: how many bytes, parts, the root's two among them, and symbols.
+#[inline]
+pub fn set_token(b: Lent, number: u32, leaf: &[u32; 13], to: &mut Runs) -> Result<[usize; 3], (u64, u64)> {
+    let mut told = [usize::MAX; 3];
+    let [list, tables, counts] = &mut to.work;
+    let refusal = unsafe {
+        raw::tt_set_token(
+            b.bytes.as_ptr(), b.bytes.len(), b.trees, b.parts.as_ptr(), b.parts.len(), b.symbols.as_ptr(), b.symbols.len(),
+            number, leaf.as_ptr(),
+            list.as_mut_ptr(), list.len(), tables.as_mut_ptr(), tables.len(), counts.as_mut_ptr(), counts.len(),
+            to.bytes.as_mut_ptr(), to.bytes.len(), to.parts.as_mut_ptr(), to.parts.len(), to.symbols.as_mut_ptr(), to.symbols.len(),
+            told.as_mut_ptr(),
+        )
+    };
+    if refusal == 0 {
+        return Ok(told);
+    }
+    assert_eq!(told[1..], [0; 2]);
+    Err((refusal.into(), told[0] as u64))
 }
 
 // ---- the builder

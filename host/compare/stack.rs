@@ -1,6 +1,7 @@
 //! The functions that docs/COMPARISON.md names, on a thread with a stack of 1 MB, with the largest inputs.
 use crate::plain_list;
-use crate::proved::{self, Builder, Lent, Stack};
+use crate::plain_replace;
+use crate::proved::{self, Builder, Lent, Runs, Stack, work_words};
 use crate::steps::{Step, steps_of, take};
 use crate::tally::Tally;
 
@@ -36,7 +37,8 @@ fn lists(tally: &mut Tally, what: &str, list: &[u32]) {
         let wrote = proved::encode_list(list, &parts, &symbols, &mut work, &mut out) == Ok(out.len() as u64);
         let written = tables && wrote && work == want.work && out == want.bytes;
         let read = written && read_alike(&out, (list.len() / 13) as u32, &parts, &symbols) && one_tree(&out, list, &parts, &symbols);
-        read && built_alike(list, &parts, &symbols, &mut work, &out)
+        let replaced = read && replaced_alike(list, &out, &parts, &symbols);
+        replaced && built_alike(list, &parts, &symbols, &mut work, &out)
     });
     tally.case(same, || what.to_string());
 }
@@ -53,6 +55,21 @@ fn read_alike(bytes: &[u8], trees: u32, parts: &[u32], symbols: &[u32]) -> bool 
     let spans = proved::set_spans(&mut copy, trees, &mut copied_parts, symbols, &[1; 10]);
     let checked = proved::check_buffer(&copy, trees, &copied_parts, symbols);
     last == Ok(1) && steps == [Ok(1); 2] && calls == [Ok(3); 2] && (kind, spans, checked) == (Ok(()), Ok(()), Ok(()))
+}
+
+/// The last tree becomes an ident with a part and a symbol of its own, or is a subtree and stays.
+fn replaced_alike(list: &[u32], bytes: &[u8], parts: &[u32], symbols: &[u32]) -> bool {
+    let trees = list.len() / 13;
+    let (number, leaf) = (trees as u32 - 1, [1, u32::MAX, 1, u32::MAX, 0, 0, 5, 1, 0, 0, 0, 0, 0]);
+    let want = plain_replace::set_token(&Ok(list.to_vec()), number, &leaf);
+    let sizes = want.as_ref().map_or([0; 3], |w| [w.bytes.len(), w.parts.len(), w.symbols.len()]);
+    let work = work_words(trees).map(|n| vec![0; n]);
+    let mut runs = Runs { work, bytes: vec![0; sizes[0]], parts: vec![0; sizes[1]], symbols: vec![0; sizes[2]] };
+    let reply = proved::set_token(Lent { bytes, trees: trees as u32, parts, symbols }, number, &leaf, &mut runs);
+    match want {
+        Ok(w) => reply == Ok([sizes[0], sizes[1] / 3, sizes[2]]) && (runs.bytes, runs.parts, runs.symbols) == (w.bytes, w.parts, w.symbols),
+        Err(refusal) => reply == Err(refusal),
+    }
 }
 
 /// The list made step by step, a point taken, passed and restored, then built in both ways.
@@ -90,13 +107,28 @@ fn nested() -> Vec<u32> {
     (0..256).flat_map(|n| [3, 255 - n, 0, 1, 1, 1, n, 1, 1, 1, 1, 600, 1]).collect()
 }
 
+/// The same with a leaf in the innermost one.
+fn nested_leaf() -> Vec<u32> {
+    let subtrees = (0..256).flat_map(|n| [3, 256 - n, 0, 1, 1, 1, n, 1, 1, 1, 1, 600, 1]);
+    subtrees.chain([1, 5, 0, 1, 1, 1, 300, 1, 0, 0, 0, 0, 0]).collect()
+}
+
+/// An ident in the place of the last tree.
+fn leaf_last(mut list: Vec<u32>) -> Vec<u32> {
+    list.truncate(list.len() - 13);
+    list.extend([1, 5, 0, 1, 1, 1, 300, 1, 0, 0, 0, 0, 0]);
+    list
+}
+
 pub fn run(tally: &mut Tally) {
     let most = plain_list::TREES as u32;
     lists(tally, "256 nested subtrees", &nested());
+    lists(tally, "256 nested subtrees and a leaf", &nested_leaf());
     lists(tally, "a lone root", &list(1, false, |_| 0, |_| 0));
     lists(tally, "1,048,576 trees, one part, one symbol", &list(most, false, |_| 0, |_| 0));
     lists(tally, "1,048,576 trees, all symbols apart", &list(most, false, |n| n % 3, |n| n));
     lists(tally, "1,048,576 trees, all symbols and parts apart", &list(most, false, |n| n, |n| n.wrapping_mul(2654435761)));
     lists(tally, "1,048,576 trees, 2,097,150 parts", &list(most, true, |n| n, |_| 0));
+    lists(tally, "1,048,576 trees, 2,097,149 parts, a leaf", &leaf_last(list(most, true, |n| n, |_| 0)));
     lists(tally, "40,000 trees, symbols that differ in high bits alone", &list(40_000, false, |n| n << 16, |n| n << 16));
 }

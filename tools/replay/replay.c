@@ -5,10 +5,12 @@
 
 #include "stored.h"
 #include "tt_export.h"
+#include "tt_store.h"
 
 enum { TREES = 300, PARTS = 2 * TREES, BYTES = 33 * TREES, NOISE = 0xAA };
 
-/* The list of the last line `list`, with its tables, its bytes, or those of the last line `loose`. */
+/* The list of the last line `list`, with its tables, its bytes, or those of the last line `loose`; or the buffer of the last line
+ * `buffer`. */
 static uint32_t list[13 * TREES], parts[3 * PARTS], symbols[TREES];
 static size_t trees, part_count, symbol_count;
 static uint8_t bytes[BYTES];
@@ -114,14 +116,19 @@ static void sizes(void) {
     held(work[0] == byte_count && memcmp(work + 1, want, trees * sizeof *want) == 0, "sizes");
 }
 
+/* The place of an entry of so many words, n if it is not there. */
+static size_t place_of(const uint32_t *entries, size_t n, size_t words, const uint32_t *entry) {
+    size_t i = 0;
+    while (i < n && memcmp(entries + words * i, entry, words * sizeof *entry) != 0) {
+        i++;
+    }
+    return i;
+}
+
 /* Whether an entry of so many words has this count. */
 static bool counted(const uint32_t *entries, const uint32_t *counts, size_t n, size_t words, const uint32_t *entry) {
-    for (size_t i = 0; i < n; i++) {
-        if (memcmp(entries + words * i, entry, words * sizeof *entry) == 0) {
-            return counts[i] == entry[words];
-        }
-    }
-    return false;
+    size_t i = place_of(entries, n, words, entry);
+    return i < n && counts[i] == entry[words];
 }
 
 /* As many entries as the source has, and each of the source's with its count. */
@@ -281,6 +288,87 @@ static void spans(void) {
     held(same && memcmp(changed_parts, parts, below * sizeof *parts) == 0, "root's spans");
 }
 
+/* ---- one leaf exchanged */
+
+static void read_buffer(void) {
+    trees = stored_count(TREES);
+    read_tables();
+    read_loose();
+}
+
+/* What is written: longer than needed, with noise in it. */
+static struct {
+    uint8_t bytes[BYTES + 8];
+    uint32_t parts[3 * PARTS + 8], symbols[TREES + 8];
+} fresh, noise;
+
+/* Whether the first words that differ rise. */
+static bool rises(const uint32_t *before, const uint32_t *entry, size_t words) {
+    size_t i = 0;
+    while (i + 1 < words && before[i] == entry[i]) {
+        i++;
+    }
+    return before[i] < entry[i];
+}
+
+/* As many entries as are stored, and each of them, which are sorted; the last ones, so many, in their places. */
+static bool same_set(const uint32_t *entries, size_t n, size_t words, size_t last) {
+    static uint32_t due[3 * PARTS];
+    size_t count = stored_count(PARTS);
+    stored_numbers(due, words * count, 3 * PARTS);
+    bool same = n == count;
+    for (size_t i = 0; same && i < n - last; i++) {
+        const uint32_t *entry = due + words * i;
+        same = place_of(entries, n - last, words, entry) < n - last && (i == 0 || rises(entry - words, entry, words));
+    }
+    return same && memcmp(entries + words * (n - last), due + words * (n - last), words * last * sizeof *due) == 0;
+}
+
+/* The new buffer over the new tables passes the check and reads as the stored list; the tables are the source's as sets. */
+static bool fresh_alike(const size_t *told) {
+    bool same = tt_check_buffer(fresh.bytes, told[0], (uint32_t)trees, fresh.parts, 3 * told[1], fresh.symbols, told[2]) == 0;
+    size_t at[3] = {0, 0, trees};
+    for (size_t i = 0; i < trees; i++) {
+        uint32_t words[13];
+        uint64_t reply = tt_walk(fresh.bytes, told[0], (uint32_t)trees, fresh.parts, 3 * told[1], fresh.symbols, told[2], at[0],
+                                 (uint32_t)at[1], (uint32_t)at[2], false, at, 3, words, 13);
+        same &= tree_alike(reply, words);
+    }
+    same = same_set(fresh.parts, told[1], 3, 2) && same;
+    return same_set(fresh.symbols, told[2], 1, 0) && same;
+}
+
+static bool unchanged_behind(const size_t *told) {
+    memcpy(fresh.bytes, noise.bytes, told[0]);
+    memcpy(fresh.parts, noise.parts, 3 * told[1] * sizeof *fresh.parts);
+    memcpy(fresh.symbols, noise.symbols, told[2] * sizeof *fresh.symbols);
+    return memcmp(&fresh, &noise, sizeof fresh) == 0;
+}
+
+static void token(void) {
+    static uint32_t work[TT_LIST_WORK(TREES) + TT_TABLE_WORK(TREES) + TT_COUNT_WORK(TREES)];
+    uint32_t number = stored_number(), leaf[13], *tables = work + TT_LIST_WORK(trees), *counts = tables + TT_TABLE_WORK(trees);
+    size_t told[3];
+    stored_tree(leaf);
+    memset(&noise, NOISE, sizeof noise);
+    fresh = noise;
+    uint32_t reply = tt_set_token(bytes, byte_count, (uint32_t)trees, parts, 3 * part_count, symbols, symbol_count, number, leaf,
+                                  work, TT_LIST_WORK(trees), tables, TT_TABLE_WORK(trees), counts, TT_COUNT_WORK(trees),
+                                  fresh.bytes, sizeof fresh.bytes, fresh.parts, 3 * PARTS + 8, fresh.symbols, TREES + 8, told);
+    /* the source gives up where ours is 10 */
+    if (stored_word()[0] == '!') {
+        bool same = reply == 10 && told[0] == number && told[1] == 0 && told[2] == 0;
+        held(same && memcmp(&fresh, &noise, sizeof fresh) == 0, "no leaf to exchange");
+        return;
+    }
+    bool done = reply == 0 && told[0] <= BYTES && told[1] <= PARTS && told[2] <= TREES;
+    bool same = done && fresh_alike(told) && unchanged_behind(told);
+    while (!done && stored_more()) {
+        stored_word();
+    }
+    held(same, "leaf exchanged");
+}
+
 static const struct {
     const char *word;
     void (*run)(void);
@@ -288,6 +376,7 @@ static const struct {
     {"span", span},          {"unspan", unspan}, {"symbol", symbol}, {"unsymbol", unsymbol}, {"list", read_list},
     {"tables", read_tables}, {"bytes", written}, {"sizes", sizes},   {"counts", counts},     {"loose", read_loose},
     {"walk", walk},          {"last", last},     {"cursor", cursor}, {"kind", kind},         {"spans", spans},
+    {"buffer", read_buffer}, {"token", token},
 };
 
 int main(int argc, char **argv) {

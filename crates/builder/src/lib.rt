@@ -1,6 +1,6 @@
 // The builder: a list of trees made step by step in a lent run of words.
 pub mod build;
-mod range;
+pub mod range;
 pub mod restore;
 mod sort;
 pub mod state;

@@ -66,7 +66,7 @@ pub(crate) fn leaf_fits(leaf: Leaf) -> bool
 }
 
 // Whether words say a leaf.
-pub(crate) fn words_fit(words: &[u32; TREE_WORDS]) -> bool
+pub fn words_fit(words: &[u32; TREE_WORDS]) -> bool
     ensures { λ r. ⌜ r ≡ leafFits (now (words .entry)) ⌝ }
 {
     match tree_from_words(words) {
@@ -79,7 +79,7 @@ pub(crate) fn words_fit(words: &[u32; TREE_WORDS]) -> bool
 }
 
 // The words of a leaf; those of no tree where it is out of range, since it may have no place in words.
-pub(crate) fn leaf_words(leaf: Leaf) -> [u32; TREE_WORDS]
+pub fn leaf_words(leaf: Leaf) -> [u32; TREE_WORDS]
     ensures { λ r. ⌜ r ≡ pushed leaf ⌝ }
 {
     if !leaf_fits(leaf) {

@@ -1,5 +1,6 @@
 // Stores into the lent run.
 use tree::types::Span;
+use tree::unchecked::put_words;
 use tree::words::span_words;
 use width::CLOSE_AT;
 use width::TREE_WORDS;
@@ -10,17 +11,6 @@ ghost use Rattle.format.specs.Word.{put};
 ghost use Rattle.format.specs.WordList.{listCount};
 ghost use Rattle.tree.specs.Types.{wordsOf};
 ghost use Rattle.builder.specs.State.{closedAt};
-
-pub(crate) fn put_words(list: &mut [u32], at: usize, words: &[u32])
-    requires { ⌜ at + length (now words) ≤ length (now list) ⌝ }
-    ensures { λ _. ⌜ now (list .exit) ≡ put (now (list .entry)) at (now (words .entry)) ⌝ }
-{
-    let mut i: usize = 0;
-    while i < words.len() {
-        list[at + i] = words[i];
-        i = i + 1;
-    }
-}
 
 // The descendant count and the close span of tree m, and nothing else.
 pub(crate) fn close_tree(list: &mut [u32], m: usize, count: u32, closing: Span)

@@ -36,7 +36,7 @@ fn put_root(l: &[u32], out: &mut [u32], at: usize)
 }
 
 // The part table: the parts below the root, then the root's two. The answer is how many there are.
-fn make_parts(l: &[u32], parts: &mut [u32], tallies: &mut [u32]) -> usize
+pub fn make_parts(l: &[u32], parts: &mut [u32], tallies: &mut [u32]) -> usize
     requires { ⌜ (1 ≤ listCount (now l)) × (keyCount (now l) false < 4294967295) ⌝ }
     requires { ⌜ ample false (length (keysOf (now l) false)) (2 * partSize)
         (length (now parts)) (length (now tallies)) ≡ true ⌝ }

@@ -13,3 +13,4 @@ pub mod WordsTree
 pub mod WordsAgain
 pub mod ListedLaws
 pub mod SizesReturns
+pub mod StoreReturns

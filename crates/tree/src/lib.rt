@@ -9,4 +9,5 @@ pub mod raw;
 pub mod refusal;
 pub mod sizes;
 pub mod types;
+pub mod unchecked;
 pub mod words;

@@ -4,7 +4,7 @@ use Rattle.builder.proofs.store.close_tree.Statement.{statement}
 use Rattle.builder.proofs.store.close_tree.Tie as tie
 use Rattle.builder.proofs.store.close_tree.Reads as reads
 use Rattle.builder.proofs.store.close_tree.Lts as lts
-use Rattle.builder.proofs.store.put_words.Reads as put-words-reads
+use Rattle.tree.proofs.unchecked.put_words.Reads as put-words-reads
 
 -- src/store.rt:30:21
 mul-put-words : tie.Need-mul-put-words

@@ -7,7 +7,7 @@ use Rattle.builder.proofs.state.Builder.new.Lts as lts
 use Rattle.builder.proofs.range.subtree_words.Reads as subtree-words-reads
 use Rattle.builder.proofs.steps.new_verdict.Reads as new-verdict-reads
 use Rattle.builder.proofs.steps.none_open.Reads as none-open-reads
-use Rattle.builder.proofs.store.put_words.Reads as put-words-reads
+use Rattle.tree.proofs.unchecked.put_words.Reads as put-words-reads
 
 -- src/steps.rt:134:13
 new-verdict-requires : tie.Need-new-verdict-requires

@@ -6,7 +6,7 @@ use Rattle.builder.proofs.state.Builder.open.Reads as reads
 use Rattle.builder.proofs.state.Builder.open.Lts as lts
 use Rattle.builder.proofs.range.subtree_words.Reads as subtree-words-reads
 use Rattle.builder.proofs.steps.open_verdict.Reads as open-verdict-reads
-use Rattle.builder.proofs.store.put_words.Reads as put-words-reads
+use Rattle.tree.proofs.unchecked.put_words.Reads as put-words-reads
 use Rattle.tree.proofs.raw.place.Reads as place-reads
 
 -- src/steps.rt:178:13

@@ -5,7 +5,7 @@ use Rattle.builder.proofs.state.Builder.push_words.Tie as tie
 use Rattle.builder.proofs.state.Builder.push_words.Reads as reads
 use Rattle.builder.proofs.state.Builder.push_words.Lts as lts
 use Rattle.builder.proofs.steps.push_verdict.Reads as push-verdict-reads
-use Rattle.builder.proofs.store.put_words.Reads as put-words-reads
+use Rattle.tree.proofs.unchecked.put_words.Reads as put-words-reads
 use Rattle.tree.proofs.raw.place.Reads as place-reads
 
 -- src/steps.rt:174:13

@@ -1,0 +1,8 @@
+-- ---- a part of a run
+pub mod Parts
+-- ---- one law for each return
+pub mod FreshReturns
+pub mod JudgeReturns
+pub mod SetReturns
+-- ---- what the answers mean
+pub mod Exchanged

@@ -1,0 +1,4 @@
+pub mod Report
+pub mod Fresh
+pub mod Replaced
+pub mod Exchanged

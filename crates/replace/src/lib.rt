@@ -1,0 +1,5 @@
+// One leaf of a stored list exchanged: new bytes over new tables.
+mod fresh;
+mod judge;
+pub mod report;
+pub mod set_token;

@@ -1,0 +1,2 @@
+// What is done with stored buffers, for hosts: functions in numbers, on lent runs.
+pub mod set_token;

@@ -1,0 +1,2 @@
+pub mod ListReturns
+pub mod LeafReturns

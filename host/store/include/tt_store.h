@@ -1,0 +1,44 @@
+/* One leaf of a stored buffer of packed token trees exchanged. Link with libstore.a, which `rt staticlib store` writes (x86-64). */
+#ifndef TT_STORE_H
+#define TT_STORE_H
+
+#include <stddef.h>
+#include <stdint.h>
+
+#ifdef __cplusplus
+extern "C" {
+#endif
+
+/* How many words the three runs of work words must have at least for so many trees, and what is always enough for the outputs. */
+#define TT_LIST_WORK(trees) (16 * (size_t)(trees) + 16)
+#define TT_TABLE_WORK(trees) (10 * (size_t)(trees) + 10)
+#define TT_COUNT_WORK(trees) (6 * (size_t)(trees) + 6)
+#define TT_MOST_BYTES(trees) (33 * (size_t)(trees))
+#define TT_MOST_PART_WORDS(trees) (6 * (size_t)(trees))
+#define TT_MOST_SYMBOLS(trees) ((size_t)(trees))
+
+/* The list of the buffer b with another leaf as tree `number`, written over tables made afresh.
+ *
+ * Read: the buffer, its tree count, its tables, three words a part (the root's two last) and one a symbol; the leaf's 13 list words. No
+ * run may lie over one that is written. Nothing is kept between calls: threads may call it at once, on runs of their own.
+ *
+ * 0: out, out_parts and out_symbols begin with the new buffer and tables, behind which they are unchanged; told has how many bytes,
+ * parts (three words each) and symbols these are. There are as many trees as before. What the work words hold is open.
+ *
+ * Else the number of the refusal, and told has the tree that it names and two zeros; out, out_parts and out_symbols are unchanged:
+ * - the check's, at its tree: 1, 2, 3, 4, 7, 8 or 9;
+ * - 10 at `number`: at or past the tree count, or a subtree's, so always for 0;
+ * - 2 at `number`: the words are no leaf's, or a field is out of range;
+ * - 6 at 0: first for list, tables or counts shorter than above, then for an output that is too short. Work words are unchanged but for
+ *   a short output. */
+uint32_t tt_set_token(const uint8_t *b, size_t b_len, uint32_t trees, const uint32_t *parts, size_t parts_len,
+                      const uint32_t *symbols, size_t symbols_len, uint32_t number, const uint32_t leaf[13], uint32_t *list,
+                      size_t list_len, uint32_t *tables, size_t tables_len, uint32_t *counts, size_t counts_len, uint8_t *out,
+                      size_t out_len, uint32_t *out_parts, size_t out_parts_len, uint32_t *out_symbols, size_t out_symbols_len,
+                      size_t told[3]);
+
+#ifdef __cplusplus
+}
+#endif
+
+#endif

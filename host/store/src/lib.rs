@@ -1,0 +1,159 @@
+//! One leaf of a stored bundle of packed token trees exchanged, by the proved function of the crate `store`.
+//!
+//! A bundle is a part table, a symbol table and a buffer of trees (docs/FORMAT.md of the repository). [`Stored::set_token`] gives the buffer of
+//! the same list with one leaf exchanged, over tables made afresh: every other tree reads as before, and the new buffer passes the check; that
+//! is proved. The old one is not touched.
+//!
+//! ```
+//! use store::{Ident, IdentIsRaw, Leaf, Span, Stored};
+//!
+//! // a root around `+`, and three parts, the root's two last
+//! let mut bundle = Vec::new();
+//! for file in [7u32, 1, 2] {
+//!     bundle.extend(b"SP");
+//!     bundle.extend([file, 0, 0].map(u32::to_le_bytes).concat());
+//! }
+//! bundle.extend(b"BT\x02\0\0\0\x26\0\0\0");
+//! bundle.extend(b"\x04\x40\0\0\x01\0\0\0\0\0\0\0\x1D\x08\x40\0\0\x01\0\0\0\0\0\0\0\x01\0\0\0\x05\0\0\0");
+//! bundle.extend(b"\x41\0\x05\0\x56");
+//! let stored = Stored::from_bundle(&bundle)?;
+//!
+//! // in its place the name with symbol 9
+//! let span = Span { file: 7, ast_id: 0, context: 0, start: 10, len: 1 };
+//! let name = Leaf::Ident(Ident { sym: 9, span, is_raw: IdentIsRaw::No });
+//! let renamed = stored.set_token(1, name)?;
+//! assert_eq!(renamed.symbols(), [9]);
+//! assert_eq!(renamed.bytes()[33..], *b"\x42\0\x05\0\0");
+//!
+//! // the root is no leaf
+//! let refusal = stored.set_token(0, name).unwrap_err();
+//! assert_eq!((refusal.number(), refusal.tree()), (10, 0));
+//! # Ok::<(), store::Refusal>(())
+//! ```
+use std::error::Error;
+use std::fmt;
+
+mod bundle;
+mod leaf;
+mod raw;
+
+pub use leaf::{Ident, IdentIsRaw, Leaf, LitKind, Literal, Punct, Spacing, Span};
+
+/// Why something is refused: the number of a row, 1 to 11, and the tree that it names.
+#[derive(Clone, Copy, Debug, PartialEq, Eq, Hash)]
+pub struct Refusal {
+    row: checked::Refusal,
+    tree: u32,
+}
+
+impl Refusal {
+    /// 1 to 11.
+    pub fn number(self) -> u32 {
+        self.row.number()
+    }
+
+    /// 0 where no tree is meant.
+    pub fn tree(self) -> u32 {
+        self.tree
+    }
+
+    /// What the row says.
+    pub fn meaning(self) -> &'static str {
+        self.row.meaning()
+    }
+}
+
+impl fmt::Display for Refusal {
+    fn fmt(&self, f: &mut fmt::Formatter<'_>) -> fmt::Result {
+        write!(f, "refused {} at {}: {}", self.number(), self.tree, self.meaning())
+    }
+}
+
+impl Error for Refusal {}
+
+/// A buffer that the check passes, with its tables.
+#[derive(Clone, Debug, PartialEq, Eq)]
+pub struct Stored {
+    bytes: Vec<u8>,
+    parts: Vec<[u32; 3]>,
+    symbols: Vec<u32>,
+    trees: u32,
+}
+
+impl Stored {
+    /// Refused as by `checked::check`, which is asked first.
+    pub fn from_bundle(bundle: &[u8]) -> Result<Stored, Refusal> {
+        let checked = checked::check(bundle);
+        let Some(stored) = bundle::read(bundle) else {
+            return Err(Refusal { row: checked.expect_err("a bad bundle"), tree: 0 });
+        };
+        // the check of a bundle gives no tree, that of a buffer does
+        checked.map_err(|row| Refusal { row, tree: stored.refused_tree() })?;
+        Ok(stored)
+    }
+
+    /// The parts, the symbols, the buffer.
+    pub fn to_bundle(&self) -> Vec<u8> {
+        bundle::write(self)
+    }
+
+    pub fn bytes(&self) -> &[u8] {
+        &self.bytes
+    }
+
+    /// File, ast id and context of each; the last two are the root's.
+    pub fn parts(&self) -> &[[u32; 3]] {
+        &self.parts
+    }
+
+    pub fn symbols(&self) -> &[u32] {
+        &self.symbols
+    }
+
+    pub fn trees(&self) -> u32 {
+        self.trees
+    }
+
+    /// This list with another leaf as tree `number`, the root being 0. Refused with 10 at a number that is no leaf's, with 2 at a leaf with a
+    /// field out of range.
+    ///
+    /// For the time of the call it takes 189 bytes a tree: work words, and room for the most that there can be to write.
+    pub fn set_token(&self, number: u32, leaf: Leaf) -> Result<Stored, Refusal> {
+        let trees = self.trees as usize;
+        let mut work = vec![0; 32 * trees + 32];
+        let (list, others) = work.split_at_mut(16 * trees + 16);
+        let (tables, counts) = others.split_at_mut(10 * trees + 10);
+        let (mut bytes, mut parts, mut symbols) = (vec![0; 33 * trees], vec![[0; 3]; 2 * trees + 2], vec![0; trees]);
+        let told = raw::set_token(self, number, &leaf.words(), [list, tables, counts], &mut bytes, parts.as_flattened_mut(), &mut symbols)?;
+        Ok(Stored { bytes: bytes[..told[0]].into(), parts: parts[..told[1]].into(), symbols: symbols[..told[2]].into(), trees: self.trees })
+    }
+
+    /// The tree that the check's refusal of this buffer names: it comes before that of a tree number past any count, and before any
+    /// lent run is looked at.
+    fn refused_tree(&self) -> u32 {
+        let refused = raw::set_token(self, u32::MAX, &[0; 13], [&mut [], &mut [], &mut []], &mut [], &mut [], &mut []);
+        refused.expect_err("no such tree").tree
+    }
+}
+
+#[cfg(test)]
+mod tests {
+    use super::*;
+
+    #[test]
+    fn a_refusal_says_row_and_tree() {
+        let refusal = Refusal { row: checked::Refusal::of(4).unwrap(), tree: 256 };
+        assert_eq!(refusal.to_string(), "refused 4 at 256: too deep");
+        assert_eq!((refusal.number(), refusal.tree(), refusal.meaning()), (4, 256, "too deep"));
+        let error: Box<dyn Error> = refusal.into();
+        assert!(error.to_string().ends_with("too deep"));
+    }
+
+    #[test]
+    fn nothing_is_a_bad_bundle() {
+        for bundle in [b"".as_slice(), b"B", b"BT", b"XX", b"SP", b"SY\0\0\0"] {
+            let refusal = Stored::from_bundle(bundle).unwrap_err();
+            assert_eq!((refusal.number(), refusal.tree()), (1, 0), "{bundle:?}");
+        }
+    }
+}
