@@ -1,32 +1,8 @@
 //! Finds libbundle.a, which `rt staticlib bundle` writes: in the folder TT_BUNDLE_LIB, or in the repository's target/staticlib.
 //! A relative TT_BUNDLE_LIB counts from the folder of this crate.
-use std::env;
-use std::path::{Path, PathBuf};
+#[path = "../static_library.rs"]
+mod static_library;
 
 fn main() {
-    let here = PathBuf::from(env::var_os("CARGO_MANIFEST_DIR").expect("set by cargo"));
-    let usual = here.join("../../target/staticlib");
-    let folder = env::var_os("TT_BUNDLE_LIB").map_or(usual, |folder| here.join(folder));
-    let library = folder.join("libbundle.a");
-    println!("cargo:rerun-if-env-changed=TT_BUNDLE_LIB");
-    println!("cargo:rerun-if-changed={}", library.display());
-    if env::var("CARGO_CFG_TARGET_ARCH").as_deref() != Ok("x86_64") {
-        fail("the static library is for x86-64");
-    }
-    if !library.is_file() {
-        fail(&missing(&library));
-    }
-    println!("cargo:rustc-link-search=native={}", folder.display());
-    println!("cargo:rustc-link-lib=static=bundle");
-    println!("cargo:rustc-env=TT_BUNDLE_LIB_FOUND={}", folder.display());
-}
-
-fn missing(library: &Path) -> String {
-    let library = library.display();
-    format!("{library} is missing: run `rt staticlib bundle` at the top of the repository, or set TT_BUNDLE_LIB to the folder that has it")
-}
-
-fn fail(why: &str) -> ! {
-    eprintln!("checked: {why}");
-    std::process::exit(1)
+    static_library::link("bundle", "TT_BUNDLE_LIB");
 }

@@ -1,12 +1,12 @@
 -- What the answers of `set_token` mean: where it answers Replaced the outputs are admitted and read as the list with one leaf exchanged;
 -- it refuses where a row holds and nowhere else, and changes no output then.
-use Prim.Native.Nat.{ℕ, _*_, _/_, _≤_}
-use mathlib.Core.Path.{_≡_, refl, sym, ap, _∙_, subst, subst₃}
+use Prim.Native.Nat.{ℕ, _*_, _≤_}
+use mathlib.Core.Path.{_≡_, refl, sym, ap, _∙_, subst₃}
 use mathlib.Core.List.{List}
 use native.Mathlib.Omega.{arith}
 use borrow.Author.Tests.{le-leb}
 use lib.ListN.{length, take, drop}
-use Rattle.format.specs.Verdict.{Verdict, passed, refused, rule}
+use Rattle.format.specs.Verdict.{Verdict, passed, refused}
 use Rattle.format.specs.Word.{put}
 use Rattle.format.specs.Width.{partSize}
 use Rattle.format.specs.Buffer.{ownReader, bufferCheck}

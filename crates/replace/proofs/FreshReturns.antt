@@ -1,5 +1,5 @@
 -- One law for each return of the functions of src/fresh.rt, with premises as the code's tests and calls give them.
-use Prim.Native.Nat.{ℕ, _+_, _*_, _-_, _/_, _%_, _<_, _≤_}
+use Prim.Native.Nat.{ℕ, _+_, _*_, _-_, _/_, _<_, _≤_}
 use mathlib.Core.Bool.{Bool, true, false, not, _&&_}
 use mathlib.Core.Path.{_≡_, refl, sym, ap, _∙_, subst, subst₃}
 use mathlib.Core.List.{List, [], _∷_, _++_}
@@ -8,15 +8,15 @@ use borrow.Author.Tests.{le-leb, lt-leb, leb-true, eq-eqb, ne-eqb, eqb-true, eqb
 use lib.Dec.{leb, eqb}
 use lib.ListN.{length, take, drop, length-drop}
 use lib.Seq.{take-all}
-use Rattle.format.specs.Verdict.{Verdict, passed, refused, _andThen_, rule, contents}
+use Rattle.format.specs.Verdict.{passed, refused, rule}
 use Rattle.format.specs.Word.{put}
-use Rattle.format.specs.Width.{partSize, treeSize}
+use Rattle.format.specs.Width.{partSize}
 use Rattle.format.specs.Write.{workWords}
-use Rattle.format.specs.WordList.{listCount, listSized, listRules, listRows}
+use Rattle.format.specs.WordList.{listCount, listRows}
 use Rattle.format.specs.Writer.{listVerdict, packed, trees, workVerdict, writerVerdict}
-use Rattle.format.specs.MakeTables.{keyCount, keysOf, tableWords, tableCounts, partTable, partCounts, symbolTable, symbolCounts, partTotal}
-use Rattle.format.specs.Replace.{tableWork, countWork, freshBytes, outFits, refusal, reportOf}
-use Rattle.format.proofs.Each.{both, rule-passed, and-left, and-right, and₃}
+use Rattle.format.specs.MakeTables.{keysOf, partTable, partCounts, symbolTable, symbolCounts, partTotal}
+use Rattle.format.specs.Replace.{tableWork, countWork, freshBytes, outFits, refusal}
+use Rattle.format.proofs.Each.{true-false, and-left, and-right, rule-passed, rule-refused}
 use Rattle.format.proofs.Kept.{kept}
 use Rattle.format.proofs.OwnTables.{own-passes}
 use Rattle.format.proofs.Put.{put-length, put-there, put-behind}
@@ -24,7 +24,6 @@ use Rattle.format.proofs.TableKeys.{keys-many}
 use Rattle.format.proofs.TableLaw.{parts-many, part-words, parts-most, part-counts-many, symbols-many, symbols-most, symbol-counts-many}
 use Rattle.format.proofs.WriteSize.{work-size}
 use Rattle.pack.proofs.Store.{put-none}
-use Rattle.tree.specs.Refusal.{reportAnswer}
 use Rattle.tree.specs.declared.refusal.Refusal.{Refusal}
 use Rattle.tree.specs.declared.refusal.Report.{Report}
 use Rattle.tree.specs.declared.refusal.Report.the-variants as reports
@@ -34,22 +33,16 @@ use Rattle.keys.specs.Runs.{Room}
 use Rattle.entries.specs.Runs.{Made}
 use Rattle.distinct.specs.Count.{ample}
 use Rattle.tables.specs.Made.{PartsMade}
-use Rattle.tables.proofs.MakeReturns.{rows-some, rows-fit}
+use Rattle.tables.proofs.MakeReturns.{rows-some, rows-most, rows-fit}
 use Rattle.writer.specs.Written.{Written}
 use Rattle.replace.specs.Report.{replaceAnswer}
-use Rattle.replace.specs.Fresh.{symbolsAt, SymbolsMade, Held, Tabled, TablePut, tablesOf, stored, OutputsPut, outRow, Outputs, Put, Freshly}
+use Rattle.replace.specs.Fresh.{symbolsAt, SymbolsMade, Held, Tabled, TablePut, tablesOf, stored, OutputsPut, Put, Freshly}
 use Rattle.replace.specs.declared.report.ReplaceReport.{ReplaceReport}
 use Rattle.replace.specs.declared.report.ReplaceReport.the-variants as answers
 use Rattle.replace.specs.declared.fresh.Counted.{Counted}
 use Rattle.replace.proofs.Parts.{part-back}
 
 -- ---- the symbol table
-
-pub rows-most : (l : List ℕ) → listRows l ≡ passed → listCount l ≤ 1048576
-rows-most l e =
-    let a = both (rule (listSized l) 1 0) (listRules l) e .0 in
-    let b = and₃ (eqb (length l % treeSize) 0) (leb 1 (listCount l)) (leb (listCount l) 1048576) (rule-passed (listSized l) 1 0 a) in
-    leb-true _ _ (b .2)
 
 module _ (l : List ℕ) (at : ℕ) (t c : List ℕ) (rows : listRows l ≡ passed) (h : at + listCount l ≤ length t) (g : countWork (listCount l) ≤ length c) where
   -- the part that is lent is all from `at` on
@@ -257,10 +250,7 @@ module _ (l parts symbols c x y z : List ℕ) (p : parts ≡ partTable l) (s : s
   short-of false b d e = refl
 
   false-and : (a b : Bool) → a ≡ false → (a && b) ≡ false
-  false-and true b e = absurd-true e
-    where
-      absurd-true : true ≡ false → (true && b) ≡ false
-      absurd-true q = let w : _≡_ {A = ℕ} 0 1 = cc in absurd (omega arith)
+  false-and true b e = true-false true refl e
   false-and false b e = refl
 
   module _ (u : Bool) (m : u ≡ (leb (length parts) (length y) && leb (length symbols) (length z))) where
@@ -299,14 +289,9 @@ module _ (l parts symbols c x y z : List ℕ) (p : parts ≡ partTable l) (s : s
     six : (why : Refusal) → rule (leb (length (freshBytes l)) (length x)) 6 0 ≡ refused (why .number) (why .tree)
         → (leb (length (freshBytes l)) (length x) ≡ false) × (answers.Refused why ≡ replaceAnswer (refusal 6 0))
     unfolding replaceAnswer
-    six why e = go (leb (length (freshBytes l)) (length x)) e
-      where
-        go : (b : Bool) → rule b 6 0 ≡ refused (why .number) (why .tree) → (b ≡ false) × (answers.Refused why ≡ answers.Refused (record { number = 6; tree = 0 }))
-        go true q = let u : _≡_ {A = ℕ} 0 1 = cc in absurd (omega arith)
-        go false q =
-            let i : why .number ≡ 6 = cc in
-            let j : why .tree ≡ 0 = cc in
-            (refl, λ k. answers.Refused (record { number = i k; tree = j k }))
+    six why e =
+        let x = rule-refused (leb (length (freshBytes l)) (length x)) 6 0 (why .number) (why .tree) e in
+        (x .0, λ k. answers.Refused (record { number = sym (x .1) k; tree = sym (x .2) k }))
 
     pub bytes-short : (why : Refusal) → r ≡ reports.Refused why → Put l x y z (answers.Refused why) c c′ x′ y′ z′
     bytes-short why q =

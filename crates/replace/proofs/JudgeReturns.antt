@@ -3,10 +3,9 @@ use Prim.Native.Nat.{ℕ, _+_, _*_, _<_, _≤_}
 use mathlib.Core.Bool.{Bool, true, false, not, _&&_}
 use mathlib.Core.Path.{_≡_, refl, sym, ap, _∙_}
 use mathlib.Core.List.{List}
-use native.Mathlib.Omega.{arith}
 use borrow.Author.Tests.{le-leb, lt-leb, not-true, not-false}
 use lib.Dec.{leb}
-use Rattle.format.specs.Verdict.{Verdict, passed, refused, _andThen_, rule}
+use Rattle.format.specs.Verdict.{passed, refused}
 use Rattle.format.specs.Buffer.{bufferCheck}
 use Rattle.format.specs.Builder.{leafFits}
 use Rattle.format.specs.Replace.{listWork, tableWork, countWork, isLeaf, replaceVerdict, refusal}
@@ -16,7 +15,6 @@ use Rattle.tree.specs.declared.refusal.Verdict.{Verdict as Answer}
 use Rattle.tree.specs.declared.refusal.Verdict.the-variants.{Passed, Refused}
 use Rattle.tree.proofs.Answers.{answer-passed, answer-refused}
 use Rattle.replace.specs.Report.{replaceAnswer}
-use Rattle.replace.specs.declared.report.ReplaceReport.{ReplaceReport}
 use Rattle.replace.specs.declared.report.ReplaceReport.the-variants as answers
 
 pub short-is : answers.Refused (record { number = 6; tree = 0 }) ≡ replaceAnswer (refusal 6 0)

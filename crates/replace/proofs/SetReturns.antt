@@ -1,5 +1,5 @@
 -- One law for each return of the functions of src/set_token.rt, with premises as the code's tests and calls give them.
-use Prim.Native.Nat.{ℕ, _+_, _*_, _-_, _<_, _≤_}
+use Prim.Native.Nat.{ℕ, _+_, _*_, _-_, _≤_}
 use mathlib.Core.Bool.{Bool, true, false, not, _&&_}
 use mathlib.Core.Path.{_≡_, refl, sym, ap, _∙_, subst}
 use mathlib.Core.List.{List}
@@ -7,12 +7,12 @@ use native.Mathlib.Omega.{arith}
 use borrow.Author.Tests.{le-leb, leb-true, not-true, not-false}
 use lib.Dec.{leb}
 use lib.ListN.{length, take, drop}
-use Rattle.format.specs.Verdict.{Verdict, passed, refused, _andThen_, rule, contents}
+use Rattle.format.specs.Verdict.{passed, refused}
 use Rattle.format.specs.Word.{put}
 use Rattle.format.specs.Width.{treeSize}
 use Rattle.format.specs.Buffer.{bufferCheck}
 use Rattle.format.specs.WordList.{listCount, listRows}
-use Rattle.format.specs.Replace.{listWork, tableWork, countWork, outFits, refusal, listOf, exchanged, replaceVerdict, replaceWork, replaceOut, WorkLeft}
+use Rattle.format.specs.Replace.{listWork, tableWork, countWork, refusal, listOf, exchanged, replaceVerdict, replaceWork, replaceOut, WorkLeft}
 use Rattle.format.proofs.Each.{and₃}
 use Rattle.format.proofs.Kept.{kept}
 use Rattle.format.proofs.Put.{put-length, put-behind, take-put}

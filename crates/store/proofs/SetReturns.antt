@@ -1,13 +1,13 @@
 -- One law for each return of the functions of src/set_token.rt, with premises as the code's calls give them.
 use Prim.Native.Nat.{ℕ}
-use mathlib.Core.Path.{_≡_, refl, ap, _∙_, subst}
+use mathlib.Core.Path.{_≡_, subst}
 use mathlib.Core.List.{List, [], _∷_}
 use Rattle.format.proofs.Kept.{kept}
 use Rattle.tree.specs.declared.refusal.Refusal.{Refusal}
 use Rattle.replace.specs.Replaced.{Replaced}
 use Rattle.replace.specs.declared.report.ReplaceReport.{ReplaceReport}
 use Rattle.replace.specs.declared.report.ReplaceReport.the-variants as answers
-use Rattle.store.specs.Told.{numberOf, toldOf, Told, SetTold}
+use Rattle.store.specs.Told.{Told, SetTold}
 
 pub sizes-told : (report : ReplaceReport) (bytes parts symbols : ℕ) → report ≡ answers.Replaced bytes parts symbols → Told report 0 (bytes ∷ parts ∷ symbols ∷ [])
 sizes-told report bytes parts symbols e = record { number = rw e; more = rw e }

@@ -99,6 +99,9 @@ rows-count l e =
 pub rows-some : (l : List ℕ) → listRows l ≡ passed → 1 ≤ listCount l
 rows-some l e = rows-count l e .0
 
+pub rows-most : (l : List ℕ) → listRows l ≡ passed → listCount l ≤ 1048576
+rows-most l e = rows-count l e .1
+
 pub rows-fit : (l : List ℕ) (s : Bool) → listRows l ≡ passed → keyCount l s < 4294967295
 unfolding keyCount
 rows-fit l s e = go s

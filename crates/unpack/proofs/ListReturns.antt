@@ -1,5 +1,5 @@
 -- One law for each return and call of the functions of src/list.rt, with premises as the code's tests and calls give them.
-use Prim.Native.Nat.{ℕ, zero, suc, _+_, _*_, _/_, _≤_, _<_}
+use Prim.Native.Nat.{ℕ, _+_, _*_, _/_, _≤_, _<_}
 use mathlib.Core.Bool.{true, _&&_}
 use mathlib.Core.Path.{_≡_, refl, sym, ap, _∙_}
 use mathlib.Core.List.{List, _++_}
@@ -12,8 +12,7 @@ use Rattle.format.specs.Verdict.{passed}
 use Rattle.format.specs.Word.{put}
 use Rattle.format.specs.Width.{partSize, treeSize}
 use Rattle.format.specs.Reader.{Reader, Reply, got, bad}
-use Rattle.format.specs.Tree.{Raw, punct, ident, literal, subtree}
-use Rattle.format.specs.Tables.{Mode, rules, treeWords, modeTables, ownLimits, ownMode}
+use Rattle.format.specs.Tables.{Mode, ownLimits, ownMode}
 use Rattle.format.specs.Check.{check, nextOf, treeOf, placeOf, reading, listing}
 use Rattle.format.specs.Buffer.{wordShape, ownReader, bufferCheck}
 use Rattle.format.specs.WordList.{wordsUpTo}
@@ -21,7 +20,7 @@ use Rattle.format.specs.Replace.{listOf}
 use Rattle.format.proofs.CheckLaw.{next-place}
 use Rattle.format.proofs.Each.{and-right}
 use Rattle.format.proofs.Own.{own-sound}
-use Rattle.format.proofs.Reading.{passed-admitted, each-clean}
+use Rattle.format.proofs.ListOf.{words-length, mode-whole}
 use Rattle.pack.proofs.Store.{put-put, put-none}
 use Rattle.tree.specs.Types.{treeWordsOf}
 use Rattle.tree.specs.Mode.{limitsOf, modeOf, Whole}
@@ -65,13 +64,6 @@ pub ruleset tree-cases = (bad-next, bad-words, got-next, got-words)
 
 -- ---- unpack_in
 
-tree-long : (M : Mode) (n : ℕ) (t : Raw) → length (treeWords M n t) ≡ treeSize
-unfolding treeWords
-tree-long M n (punct s c x) = refl
-tree-long M n (ident s i r) = refl
-tree-long M n (literal s i k r x) = refl
-tree-long M n (subtree s t c d) = refl
-
 module _ (b : List ℕ) (k : ℕ) (M : Mode) where
   abbrev R : Reader (List ℕ)
   R = readerIn b k M
@@ -80,16 +72,9 @@ module _ (b : List ℕ) (k : ℕ) (M : Mode) where
   tree = listing wordShape R .tree
 
   -- the trees of a buffer that the check has passed have all their words
-  pub words-long : check wordShape R ≡ passed → (m : ℕ) → m ≤ k → length (wordsUpTo tree m) ≡ treeSize * m
-  unfolding wordsUpTo readerIn
-  words-long ok zero f = refl
-  words-long ok (suc m) f =
-      let ad = passed-admitted wordShape (treeWords M) b k (rules (modeTables M)) ok in
-      let c = each-clean wordShape (treeWords M) b k (rules (modeTables M)) ad m (omega arith) in
-      let e : length (tree m) ≡ treeSize = ap length (c .shown) ∙ tree-long M m (c .raw) in
-      let r = words-long ok m (omega arith) in
-      let a = length-append (wordsUpTo tree m) (tree m) in
-      omega arith
+  words-long : check wordShape R ≡ passed → (m : ℕ) → m ≤ k → length (wordsUpTo tree m) ≡ treeSize * m
+  unfolding readerIn
+  words-long ok m f = words-length tree m (λ n h. mode-whole M b k ok n (omega arith))
 
   -- the words of the trees before tree n are stored, and tree n stands at this place; l₀ has become l
   pub record Unpacked (l₀ : List ℕ) (n at : ℕ) (l : List ℕ) : Type 0 where
