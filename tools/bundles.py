@@ -1,4 +1,4 @@
-"""Bundles and their listing, written from document 01 (docs/01-scope.md) alone: none of the proved code is used.
+"""Bundles and their listing, written from document 01 (docs/01-scope.md) and, for loose spans, document 02: none of the proved code is used.
 
 Trees are built from bytes by the functions below; `listing` is the lister's text for any run of bytes."""
 
@@ -12,10 +12,10 @@ def le(n, size=4):
 
 
 def span(index, start, length, extra=0, form=None):
-    """A span in the smallest form that fits, or in the form of 4, 8 or 12 bytes that is asked for."""
+    """A span in the smallest form that fits, or in the longer one of 8 or 12 bytes that is asked for."""
     fits = 4 if index < 16 and length < 256 and start < 2**17 else 8 if index < 2**15 and length < 2**18 and start < 2**27 else 12
-    form = form or fits
-    assert form >= fits and index < 2**28
+    form = max(form or fits, fits)
+    assert index < 2**28
     first = extra + 4 * (index % 16) + 64 * (length % 256) + 2**14 * (form > 4) + 2**15 * (start % 2**17)
     if form == 4:
         return le(first)
@@ -41,16 +41,17 @@ def punct(part, start, char, spacing=0, length=1, form=None):
     return span(part, start, length, 0, form) + bytes([6 + 8 * spacing]) + le(ord(char))
 
 
-def ident(part, start, length, name, raw=0):
-    return span(part, start, length, 2) + symbol(name, raw)
+def ident(part, start, length, name, raw=0, form=None):
+    return span(part, start, length, 2, form) + symbol(name, raw)
 
 
-def literal(part, start, length, text, kind, raw_count=0, suffix=0):
+def literal(part, start, length, text, kind, raw_count=0, suffix=0, form=None):
     short = {(4, 0): 3, (5, 0): 4, (5, 1): 11, (2, 0): 12}.get((kind, raw_count))
+    head = span(part, start, length, 0, form)
     if short and suffix < 16:
-        return span(part, start, length) + bytes([short + 16 * suffix]) + symbol(text)
+        return head + bytes([short + 16 * suffix]) + symbol(text)
     count = bytes([raw_count]) if kind in (5, 7, 9) else b""
-    return span(part, start, length) + bytes([7 + 8 * kind]) + count + bytes([suffix]) + symbol(text)
+    return head + bytes([7 + 8 * kind]) + count + bytes([suffix]) + symbol(text)
 
 
 def trees(children):
@@ -65,8 +66,8 @@ def leaf(b):
     return (b, 0)
 
 
-def subtree(part, start, close, kind, children, length=1, close_part=None, close_length=None, form=None):
-    """A subtree in the first of the forms 000, 001, 010, 101 that fits, or in the one that is asked for."""
+def subtree(part, start, close, kind, children, length=1, close_part=None, close_length=None, form=None, open_form=None, close_form=None):
+    """A subtree in the first of the forms 000, 001, 010, 101 that fits, or in the one that is asked for; its spans as `span` makes them."""
     close_part = part if close_part is None else close_part
     close_length = length if close_length is None else close_length
     count, kids, away = trees(children), packed(children), close - start
@@ -81,15 +82,15 @@ def subtree(part, start, close, kind, children, length=1, close_part=None, close
         else:
             form = 5
     if form == 0:
-        head = span(part, start, away) + bytes([8 * kind + 32 * (away // 256), count, len(kids)])
+        head = span(part, start, away, 0, open_form) + bytes([8 * kind + 32 * (away // 256), count, len(kids)])
     elif form == 1:
-        head = span(part, start, length) + bytes([1 + 8 * kind + 32 * away, count, len(kids)])
+        head = span(part, start, length, 0, open_form) + bytes([1 + 8 * kind + 32 * away, count, len(kids)])
     elif form == 2:
-        head = span(part, start, length) + bytes([2 + 8 * kind + 32 * (close_part % 8), away, count])
+        head = span(part, start, length, 0, open_form) + bytes([2 + 8 * kind + 32 * (close_part % 8), away, count])
         head += le(16 * len(kids) + close_part // 8, 2)
     else:
-        head = span(part, start, length) + bytes([5 + 8 * kind])
-        head += span(close_part, close, close_length) + le(count) + le(len(kids))
+        head = span(part, start, length, 0, open_form) + bytes([5 + 8 * kind])
+        head += span(close_part, close, close_length, 0, close_form) + le(count) + le(len(kids))
     return (head + kids, count)
 
 
@@ -142,6 +143,13 @@ def read_span(b, p):
     return index + 16 * (rest % 2**24), start + 2**17 * (rest >> 48), length + 256 * (rest >> 24 & 2**24 - 1), extra, p + 12
 
 
+def is_loose(index, start, length, size):
+    """Whether a span that was read from so many bytes fits fewer."""
+    if size == 8:
+        return index < 16 and start < 131072 and length < 256
+    return size == 12 and index < 32768 and start < 134217728 and length < 262144
+
+
 def read_symbol(b, p):
     c = word(b, p, 1)
     if not c & 2:
@@ -153,25 +161,25 @@ def read_symbol(b, p):
     return index + 8192 * word(b, p + 2, 2), c & 1, p + 4
 
 
-def read_tree(b, p):
-    """sort, spans as (part, start, length), symbol or None, descendants, children bytes, fields in range, next place"""
-    part, start, length, extra, p = read_span(b, p)
-    here = [(part, start, length)]
+def read_tree(b, first):
+    """sort, spans as (part, start, length), symbol or None, descendants, children bytes, fields in range, loose spans stored, next place"""
+    part, start, length, extra, p = read_span(b, first)
+    here, loose = [(part, start, length)], int(is_loose(part, start, length, p - first))
     if extra & 1:
         c = word(b, p, 1)
-        return "punct", here, None, 0, 0, c % 2 + extra // 2 * 2 <= 2, p + 1
+        return "punct", here, None, 0, 0, c % 2 + extra // 2 * 2 <= 2, loose, p + 1
     if extra & 2:
         name, _, p = read_symbol(b, p)
-        return "ident", here, name, 0, 0, True, p
+        return "ident", here, name, 0, 0, True, loose, p
     c = word(b, p, 1)
     p += 1
     low = c & 7
     if low == 6:
         char = word(b, p)
-        return "punct", here, None, 0, 0, c >> 3 <= 2 and (char < 0xD800 or 0xDFFF < char < 0x110000), p + 4
+        return "punct", here, None, 0, 0, c >> 3 <= 2 and (char < 0xD800 or 0xDFFF < char < 0x110000), loose, p + 4
     if low in (3, 4):
         name, _, p = read_symbol(b, p)
-        return "literal", here, name, 0, 0, True, p
+        return "literal", here, name, 0, 0, True, loose, p
     if low == 7:
         kind = c >> 3
         if kind > 10:
@@ -179,25 +187,26 @@ def read_tree(b, p):
         p += kind in (5, 7, 9)
         word(b, p, 1)
         name, _, p = read_symbol(b, p + 1)
-        return "literal", here, name, 0, 0, True, p
+        return "literal", here, name, 0, 0, True, loose, p
     if low == 5:
-        other, close, close_length, _, p = read_span(b, p)
-        count, kids = word(b, p), word(b, p + 4)
-        return "subtree", here + [(other, close, close_length)], None, count, kids, c >> 3 <= 3, p + 8
+        other, close, close_length, _, q = read_span(b, p)
+        loose += is_loose(other, close, close_length, q - p)
+        count, kids = word(b, q), word(b, q + 4)
+        return "subtree", here + [(other, close, close_length)], None, count, kids, c >> 3 <= 3, loose, q + 8
     if low == 2:
         away, count, size = word(b, p, 1), word(b, p + 1, 1), word(b, p + 2, 2)
         other = size % 16 * 8 + (c >> 5)
-        return "subtree", here + [(other, start + away, length)], None, count, size >> 4, True, p + 4
+        return "subtree", here + [(other, start + away, length)], None, count, size >> 4, True, loose, p + 4
     count, kids = word(b, p, 1), word(b, p + 1, 1)
     if low == 0:
         away, length = length | (c >> 5) * 256, 1
     else:
         away = c >> 5
-    return "subtree", [(part, start, length), (part, start + away, length)], None, count, kids, True, p + 2
+    return "subtree", [(part, start, length), (part, start + away, length)], None, count, kids, True, loose, p + 2
 
 
 def judged(b, n, p, parts, symbols):
-    sort, spans, name, count, kids, fine, next_place = read_tree(b, p)
+    sort, spans, name, count, kids, fine, loose, next_place = read_tree(b, p)
     if n == 0 and next_place - p != 33:
         raise Refused(2)
     if not fine or any(start + length > MAX for _, start, length in spans):
@@ -207,7 +216,7 @@ def judged(b, n, p, parts, symbols):
         raise Refused(8)
     if name is not None and name >= symbols:
         raise Refused(8)
-    return sort, count, kids, next_place
+    return sort, count, kids, loose, next_place
 
 
 def refusal(number, tree):
@@ -217,13 +226,14 @@ def refusal(number, tree):
 def checked(b, k, parts, symbols):
     if not (1 <= k <= 2**20 and 2 <= parts <= 2**21 and symbols <= 2**20):
         return refusal(1, 0)
-    found, p = [], 0
+    found, below, p = [], 0, 0
     for n in range(k):
         try:
-            sort, count, kids, q = judged(b, n, p, parts, symbols)
+            sort, count, kids, loose, q = judged(b, n, p, parts, symbols)
         except Refused as r:
             return refusal(r.args[0], n)
         found.append((p, q, sort, count, kids))
+        below += loose if n else 0
         p = q
     if p != len(b):
         return refusal(9, k)
@@ -244,7 +254,7 @@ def checked(b, k, parts, symbols):
     for n, (p, q, sort, count, kids) in enumerate(found):
         if sort == "subtree" and q + kids != places[n + 1 + count]:
             return refusal(9, n)
-    return f"trees {k} bytes {len(b)} parts {parts} symbols {symbols}\n" + "".join(lines)
+    return f"trees {k} bytes {len(b)} parts {parts} symbols {symbols} loose {below}\n" + "".join(lines)
 
 
 def listing(data):

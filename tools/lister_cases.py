@@ -1,6 +1,6 @@
-"""The lister's cases: each a bundle, and the refusal that it is meant to show (None: it is listed).
+"""The lister's cases: each a bundle, and the refusal that it is meant to show (None: it is listed). LOOSE says the loose spans of some.
 
-The texts are those of bundles.py, which is written from document 01."""
+The texts are those of bundles.py, which is written from documents 01 and 02."""
 from bundles import *
 
 THREE = [(7, 0, 0), (1, 0, 0), (2, 0, 0)]
@@ -24,8 +24,17 @@ def of(b, count, symbols=(), part_count=3):
     return bundle(parts(part_count), symbols, count, b)
 
 
-def puncts(n):
-    return of(root(3, [leaf(punct(0, 0, "+"))] * (n - 1)), n)
+def puncts(n, form=None):
+    return of(root(3, [leaf(punct(0, 0, "+", form=form))] * (n - 1)), n)
+
+
+def listed(*children):
+    return of(root(3, list(children)), 1 + trees(children), [1])
+
+
+def at_limit(index, start, length, form):
+    """a punct whose span has these three numbers, in so many bytes"""
+    return leaf(punct(index, start, "+", 0, length, form))
 
 
 def limit(size):
@@ -58,6 +67,26 @@ CASES = {
                                subtree(0, 1, 2, 0, [PLUS], form=5), leaf(span(0, 3, 1) + b"\x06" + le(0x2B))]), 6, [1]), None),
     "size_65536": (limit(65536), None),
     "most_trees": (puncts(13090), None),
+    # loose spans
+    "loose_in_8": (listed(leaf(punct(0, 10, "+", form=8))), None),
+    "loose_in_12": (listed(leaf(punct(0, 10, "+", form=12))), None),
+    "loose_by_8_in_12": (listed(leaf(punct(0, 10, "+", 0, 256, 12))), None),
+    "loose_sorts": (listed(leaf(punct(0, 1, "é", form=8)), leaf(ident(0, 2, 1, 0, 1, 12)), leaf(literal(0, 3, 1, 0, 4, form=8)), leaf(literal(0, 3, 1, 0, 10, form=12)),
+                           subtree(0, 4, 9, 0, [subtree(0, 5, 6, 1, [], 2, form=1, open_form=12)], open_form=8), subtree(0, 5, 6, 2, [], 2, form=2, open_form=8)), None),
+    "loose_open_of_101": (listed(subtree(0, 9, 5, 0, [PLUS], form=5, open_form=12)), None),
+    "loose_close_of_101": (listed(subtree(0, 9, 5, 0, [PLUS], form=5, close_form=8)), None),
+    "loose_both_of_101": (listed(subtree(0, 9, 5, 0, [PLUS], form=5, open_form=8, close_form=12)), None),
+    "loose_close_extra_bits": (listed((span(0, 9, 1) + b"\x05" + span(0, 5, 1, 3, 8) + bytes(8), 0)), None),
+    "distance_300_in_8": (listed(subtree(0, 9, 309, 0, [])), None),
+    "distance_300_in_12": (listed(subtree(0, 9, 309, 0, [], open_form=12)), None),
+    "distance_255_in_8": (listed(subtree(0, 9, 264, 0, [], open_form=8)), None),
+    "limits_of_4": (of(root(19, [at_limit(15, 131071, 255, 8), at_limit(16, 131071, 255, 8), at_limit(15, 131072, 255, 8), at_limit(15, 131071, 256, 8)]), 5, (), 19), None),
+    "limits_of_8": (listed(at_limit(0, 134217727, 262143, 12), at_limit(0, 134217728, 262143, 12), at_limit(0, 134217727, 262144, 12)), None),
+    "root_loose": (of(root(3, [PLUS], opening=(9, 3), closing=(40, 2)), 2), None),
+    "root_not_loose": (of(root(3, [PLUS], opening=(134217728, 3), closing=(134217731, 2)), 2), None),
+    "loose_symbols_and_forms": (listed(leaf(span(0, 1, 1, 2) + symbol(0, 0, 4)), subtree(0, 1, 2, 0, [PLUS], form=5), leaf(span(0, 3, 1) + b"\x06" + le(0x2B)),
+                                       leaf(span(0, 4, 1) + b"\x17\x00" + symbol(0, 0, 2))), None),
+    "most_loose": (puncts(7273, 8), None),
     # 1
     "empty": (b"", (1, 0)),
     "one_byte": (b"B", (1, 0)),
@@ -112,6 +141,14 @@ CASES = {
     "inner_bytes_wrong": (of(root(3, [PLUS, (subtree(0, 0, 1, 0, [PLUS])[0][:6] + b"\x06" + PLUS[0], 1)]), 4), (9, 2)),
 }
 
+LOOSE = {
+    "worked": 0, "lone_root": 0, "long_forms": 2, "most_trees": 0, "loose_in_8": 1, "loose_in_12": 1, "loose_by_8_in_12": 1, "loose_sorts": 7,
+    "loose_open_of_101": 1, "loose_close_of_101": 1, "loose_both_of_101": 2, "loose_close_extra_bits": 1, "distance_300_in_8": 0,
+    "distance_300_in_12": 1, "distance_255_in_8": 1, "limits_of_4": 1, "limits_of_8": 1, "root_loose": 0, "root_not_loose": 0,
+    "loose_symbols_and_forms": 0, "most_loose": 7272,
+}
+
 for name, (data, refused) in CASES.items():
     text = listing(data)
     assert text == refusal(*refused) if refused else text.startswith("trees "), (name, text)
+    assert name not in LOOSE or text.split("\n")[0].endswith(f" loose {LOOSE[name]}"), (name, text)

@@ -1,18 +1,19 @@
-//! What the source answers over stored buffers: walk steps, cursor calls, last spans, roots rewritten.
+//! What the source answers over stored buffers: walk steps, cursor calls, last spans, roots rewritten. A tree is followed by the report of its
+//! place, a last span by its own.
 use crate::random::Random;
+use crate::reports;
 use crate::tally::panics;
 use crate::text::Text;
 use crate::words;
 use tt::buffer::Cursor;
-use tt::{DelimSpan, Leaf, TokenTree, TopSubtree};
+use tt::{DelimSpan, TokenTree, TopSubtree};
 
 const MOST_CALLS: usize = 40;
 
-fn tree_or_none(text: &mut Text, tree: Option<TokenTree>) {
-    match tree {
-        None => text.word("-"),
-        Some(tree) => text.tree(&words::words(&tree)),
-    }
+/// The list words of a tree, and the report of its place.
+fn tree_at(text: &mut Text, top: &TopSubtree, tree: &TokenTree, place: usize) {
+    text.tree(&words::words(tree));
+    text.numbers(&reports::tree(top, place).0);
 }
 
 /// `a` advance, `s` advance_skip_subtree: the tree or none, and the place behind.
@@ -22,14 +23,19 @@ fn walk(text: &mut Text, r: &mut Random, top: &TopSubtree, skips: bool) {
     for n in 0..(top.trees() + 2).min(MOST_CALLS) {
         let skip = skips && r.one_in(3) && (n > 0 || r.one_in(8));
         text.word(if skip { "s" } else { "a" });
+        let place = walk.place();
         let tree = if skip { walk.advance_skip_subtree() } else { walk.advance() };
-        tree_or_none(text, tree);
+        match tree {
+            None => text.word("-"),
+            Some(tree) => tree_at(text, top, &tree, place),
+        }
         text.number(walk.place());
     }
 }
 
-/// `.` nothing handed back, `-` none, `!` given up, `t` a tree, `p` two leaves.
-fn answered(text: &mut Text, cursor: &mut Cursor<'_>, call: &str) {
+/// `.` nothing handed back, `-` none, `!` given up, `t` a tree, `p` two leaves. The place is that of the tree, or the first, that may be handed
+/// back.
+fn answered(text: &mut Text, top: &TopSubtree, cursor: &mut Cursor<'_>, call: &str, place: usize) {
     let mut ended = None;
     let gave_up = panics(|| match call {
         "b" => cursor.bump(),
@@ -43,11 +49,12 @@ fn answered(text: &mut Text, cursor: &mut Cursor<'_>, call: &str) {
         _ if gave_up => text.word("!"),
         (Some(tree), _) => {
             text.word("t");
-            text.tree(&words::words(&tree));
+            tree_at(text, top, &tree, place);
         }
-        (_, Some(leaves)) => {
+        (_, Some([first, second])) => {
             text.word("p");
-            leaves.into_iter().for_each(|leaf: Leaf| text.tree(&words::words(&TokenTree::Leaf(leaf))));
+            tree_at(text, top, &TokenTree::Leaf(first), place);
+            tree_at(text, top, &TokenTree::Leaf(second), reports::tree(top, place).1);
         }
         _ => text.word(if "tp".contains(call) { "-" } else { "." }),
     }
@@ -57,14 +64,30 @@ fn answered(text: &mut Text, cursor: &mut Cursor<'_>, call: &str) {
 fn cursor(text: &mut Text, r: &mut Random, top: &TopSubtree) {
     let mut cursor = top.as_token_trees().cursor();
     let on = r.pick(&[1, 2, 4]);
+    // where the open subtrees begin
+    let mut opened = Vec::new();
     text.line("cursor");
     for _ in 0..(2 * top.trees() + 4).min(MOST_CALLS) {
         let call = if r.one_in(on) { r.pick(&["b", "e", "o", "t", "p"]) } else { "o" };
         text.word(call);
-        answered(text, &mut cursor, call);
+        let here = top.bytes().len() - cursor.state().1;
+        let last = opened.last().copied().unwrap_or_default();
+        answered(text, top, &mut cursor, call, if call == "e" { last } else { here });
         let (trees, left, open) = cursor.state();
+        opened.resize(open, here);
         [trees, top.bytes().len() - left, open].into_iter().for_each(|n| text.number(n));
     }
+}
+
+/// That of the last span of all, which is the last tree's.
+fn last_report(top: &TopSubtree) -> u32 {
+    let mut walk = top.walk_from(0);
+    let places = (0..top.trees()).map(|_| {
+        let place = walk.place();
+        walk.advance();
+        place
+    });
+    reports::last(top, places.last().expect("a root"))
 }
 
 /// Of all trees, and of those below the root: place, number and trees left of the walk, then the span or none.
@@ -75,7 +98,10 @@ fn last_spans(text: &mut Text, top: &TopSubtree) {
         from.into_iter().for_each(|n| text.number(n));
         match view.last_span() {
             None => text.word("-"),
-            Some(span) => text.numbers(&words::span_words(&span)),
+            Some(span) => {
+                text.numbers(&words::span_words(&span));
+                text.number(last_report(top));
+            }
         }
     }
 }

@@ -9,6 +9,8 @@ mod plain;
 mod plain_list;
 #[path = "../compare/random.rs"]
 mod random;
+#[path = "../compare/reports.rs"]
+mod reports;
 #[path = "../compare/tally.rs"]
 mod tally;
 #[path = "../compare/words.rs"]

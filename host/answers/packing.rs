@@ -1,13 +1,16 @@
 //! Spans and symbols at the limits of their forms, and random bytes read.
+use crate::plain::{Span, span_bytes};
 use crate::random::Random;
+use crate::reports;
 use crate::tally::panics;
 use crate::text::Text;
 use tt::TopSubtree;
 
+const INDEX: [u32; 6] = [0, 15, 16, 32767, 32768, (1 << 28) - 1];
+const START: [u32; 6] = [0, 131071, 131072, 134217727, 134217728, u32::MAX];
+const LEN: [u32; 6] = [0, 1, 255, 256, 262143, 262144];
+
 fn spans(text: &mut Text) {
-    const INDEX: [u32; 6] = [0, 15, 16, 32767, 32768, (1 << 28) - 1];
-    const START: [u32; 6] = [0, 131071, 131072, 134217727, 134217728, u32::MAX];
-    const LEN: [u32; 6] = [0, 1, 255, 256, 262143, 262144];
     let pairs = START.into_iter().flat_map(|start| LEN.map(|len| (start, len)));
     for (n, (start, len)) in (0..).zip(pairs.filter(|(start, len)| start.checked_add(*len).is_some())) {
         for (i, index) in (0..).zip(INDEX) {
@@ -21,19 +24,39 @@ fn spans(text: &mut Text) {
     }
 }
 
+/// 12 bytes, unless the range goes past 4,294,967,295.
+fn span_read(text: &mut Text, bytes: &[u8]) {
+    if panics(|| TopSubtree::decode_span_bytes(bytes)) {
+        return;
+    }
+    let (index, start, len, used) = TopSubtree::decode_span_bytes(bytes);
+    text.line("unspan");
+    text.bytes(bytes);
+    text.number(index);
+    text.numbers(&[start, len]);
+    text.number(used);
+    text.number(reports::loose([index as u32, start, len], used));
+}
+
 fn spans_read(text: &mut Text, r: &mut Random) {
     for _ in 0..400 {
         let bytes: Vec<u8> = (0..12).map(|_| r.next() as u8).collect();
-        // a range past 4,294,967,295
-        if panics(|| TopSubtree::decode_span_bytes(&bytes)) {
-            continue;
+        span_read(text, &bytes);
+    }
+}
+
+/// Numbers at their limits in every form that holds them, with random bytes behind.
+fn forms_read(text: &mut Text, r: &mut Random) {
+    let pairs = INDEX.into_iter().flat_map(|index| START.map(|start| (index, start)));
+    for ((index, start), len) in pairs.flat_map(|pair| LEN.map(|len| (pair, len))) {
+        let span = Span { index: index.into(), start: start.into(), len: len.into() };
+        for size in [4, 8, 12] {
+            let mut bytes = span_bytes(r.below(4), span, size);
+            if bytes.len() == size {
+                bytes.resize_with(12, || r.next() as u8);
+                span_read(text, &bytes);
+            }
         }
-        let (index, start, len, used) = TopSubtree::decode_span_bytes(&bytes);
-        text.line("unspan");
-        text.bytes(&bytes);
-        text.number(index);
-        text.numbers(&[start, len]);
-        text.number(used);
     }
 }
 
@@ -62,4 +85,5 @@ pub fn run(text: &mut Text) {
     spans(text);
     spans_read(text, &mut r);
     symbols(text, &mut r);
+    forms_read(text, &mut r);
 }

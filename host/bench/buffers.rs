@@ -1,6 +1,8 @@
 //! Stored buffers to read. A thousand trees are 300 different lists in turn: one list again and again would teach the
 //! processor its branches.
 use crate::list::{Shape, list_of};
+use crate::plain::Loose;
+use crate::plain_list;
 use crate::proved::{self, Lent};
 use crate::timing::short_row;
 use crate::words;
@@ -40,11 +42,21 @@ fn bundle(bytes: &[u8], trees: u32, parts: &[u32], symbols: &[u32]) -> Vec<u8> {
 impl Buffer {
     fn of(list: &[u32]) -> Buffer {
         let trees: Vec<TokenTree> = list.chunks(13).map(words::tree).collect();
-        let count = trees.len() as u32;
-        let top = TopSubtree::from_serialized(trees);
-        let (parts, symbols) = (top.part_list().concat(), top.symbol_list());
-        let bundle = bundle(top.bytes(), count, &parts, &symbols);
-        Buffer { top, trees: count, parts, symbols, bundle }
+        Buffer::over(TopSubtree::from_serialized(trees))
+    }
+
+    /// The same tables, every span in twelve bytes.
+    fn loose(list: &[u32]) -> Buffer {
+        let own = Buffer::of(list);
+        let trees = plain_list::trees(list, &own.parts, &own.symbols).expect("a list that rows 1 to 5 pass");
+        let bytes = plain_list::bytes(&trees, &mut || Loose { span: 12, close: 12, ..Loose::default() }).bytes;
+        Buffer::over(TopSubtree::of(trees.len(), &bytes, &own.top.part_list(), &own.symbols))
+    }
+
+    fn over(top: TopSubtree) -> Buffer {
+        let (parts, symbols, trees) = (top.part_list().concat(), top.symbol_list(), top.trees() as u32);
+        let bundle = bundle(top.bytes(), trees, &parts, &symbols);
+        Buffer { top, trees, parts, symbols, bundle }
     }
 
     pub fn lent(&self) -> Lent<'_> {
@@ -80,6 +92,12 @@ pub fn cases(sizes: &[(usize, u64)]) -> impl Iterator<Item = Case> {
             })
         })
     })
+}
+
+/// One list with few table entries, every span in twelve bytes.
+pub fn loose(trees: usize) -> Case {
+    let list = list_of(&Shape { trees, parts: 12, symbols: 400, wrap: 60_000 }, 5);
+    Case { name: format!("{trees} trees, few entries, starts wrap, spans of twelve bytes"), buffers: vec![Buffer::loose(&list)] }
 }
 
 /// Each tree handed over and not looked at.

@@ -1,4 +1,10 @@
 //! Times of the proved functions beside the unmodified source's, in one process, on the same input, both built for release.
+// the modules of the comparison have more than is used here
+#![allow(dead_code)]
+#[path = "../compare/plain.rs"]
+mod plain;
+#[path = "../compare/plain_list.rs"]
+mod plain_list;
 #[path = "../compare/proved.rs"]
 mod proved;
 #[path = "../compare/random.rs"]

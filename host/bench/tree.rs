@@ -38,7 +38,7 @@ pub fn spans() {
             &format!("span of {bytes} bytes, read"),
             MANY,
             || {
-                let (mut at, mut sum, mut w) = (0, 0, [0; 4]);
+                let (mut at, mut sum, mut w) = (0, 0, [0; 5]);
                 while at < packed.len() {
                     at = proved::decode_span(&packed, at, &mut w).unwrap() as usize;
                     sum += u64::from(w[0]) + u64::from(w[1]) + u64::from(w[2]);
@@ -62,7 +62,7 @@ pub fn trees() {
         "tree, read one by one",
         n,
         || {
-            let (mut at, mut w) = (0, [0; 14]);
+            let (mut at, mut w) = (0, [0; 17]);
             for i in 0..n {
                 at = proved::decode_tree(top.bytes(), &part_words, &symbols, i as u32, at, &mut w).unwrap() as usize;
                 black_box(&w);

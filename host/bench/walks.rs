@@ -1,5 +1,5 @@
 //! Walks and cursors to the end of stored buffers. Both sides add up the 13 list words of every tree that is handed back.
-use crate::buffers::{Buffer, Case, cases, check, source_walk};
+use crate::buffers::{Buffer, Case, cases, check, loose, source_walk};
 use crate::proved::{self, Lent, REFUSED, Stack};
 use crate::timing::short_row;
 use crate::words;
@@ -56,7 +56,7 @@ macro_rules! whole {
 
 /// From a place to the end; the trees handed back.
 fn step_by_step(b: Lent, from: (usize, u32, u32), skip: bool) -> usize {
-    let (mut at, mut next, mut words, mut trees) = (from, [0; 3], [0; 13], 0);
+    let (mut at, mut next, mut words, mut trees) = (from, [0; 3], [0; 16], 0);
     while proved::walk(b, at, skip, &mut next, &mut words).unwrap() == 1 {
         black_box(&words);
         at = (next[0], next[1] as u32, next[2] as u32);
@@ -67,7 +67,7 @@ fn step_by_step(b: Lent, from: (usize, u32, u32), skip: bool) -> usize {
 
 /// `token_tree` and `bump_or_end` in turn.
 fn cursor_step_by_step(by_value: bool, b: Lent) {
-    let (mut at, mut stack, mut next, mut words) = ((0, 0, 0), Stack::EMPTY, [0; 3], [0; 26]);
+    let (mut at, mut stack, mut next, mut words) = ((0, 0, 0), Stack::EMPTY, [0; 3], [0; 32]);
     while at.1 < b.trees || at.2 > 0 {
         proved::cursor(by_value, b, TOKEN_TREE, at, &mut stack, &mut next, &mut words).unwrap();
         black_box(&words);
@@ -206,7 +206,7 @@ fn through_c(case: &Case) {
 }
 
 pub fn run() {
-    for case in cases(&[(1_000, 300), (30_000, 1), (200_000, 1), (1_048_576, 1)]) {
+    for case in cases(&[(1_000, 300), (30_000, 1), (200_000, 1), (1_048_576, 1)]).chain([loose(30_000)]) {
         check(&case);
         whole(&case);
         if case.name.ends_with("few entries, starts wrap") {

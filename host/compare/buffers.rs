@@ -1,9 +1,10 @@
 //! Stored buffers: the writer's, loose ones in forms that the writer would not choose, and damaged ones.
 use crate::maker::{Maker, loose};
-use crate::plain_buffer::Buffer;
+use crate::plain_buffer::{Buffer, Seen};
 use crate::plain_list;
 use crate::proved::{self, Lent};
 use crate::random::Random;
+use crate::reports;
 use crate::tally::Tally;
 use tt::TopSubtree;
 
@@ -23,13 +24,43 @@ impl Stored {
         Lent { bytes: &self.bytes, trees: self.trees, parts: &self.parts, symbols: &self.symbols }
     }
 
-    /// The source's buffer, if the check passes it: the source reads unchecked.
+    /// The source's buffer, checked or not: it reads unchecked.
+    pub fn unchecked(&self) -> TopSubtree {
+        let parts: Vec<[u32; 3]> = self.parts.chunks_exact(3).map(|w| [w[0], w[1], w[2]]).collect();
+        TopSubtree::of(self.trees as usize, &self.bytes, &parts, &self.symbols)
+    }
+
+    /// The source's buffer, if the check passes it.
     pub fn source(&self) -> Option<TopSubtree> {
         self.plain().check().ok()?;
-        let parts: Vec<[u32; 3]> = self.parts.chunks_exact(3).map(|w| [w[0], w[1], w[2]]).collect();
-        Some(TopSubtree::of(self.trees as usize, &self.bytes, &parts, &self.symbols))
+        Some(self.unchecked())
     }
 }
+
+/// A stored buffer, by its seed, beside the source's.
+#[derive(Clone, Copy)]
+pub struct Case<'a> {
+    pub seed: u64,
+    pub stored: &'a Stored,
+    pub top: &'a TopSubtree,
+}
+
+impl Case<'_> {
+    /// What the plain reader says of the spans of a tree that it reads at a place is what the source says; counted by its sort below the root.
+    pub fn reported(&self, tally: &mut Tally, seen: &Seen, place: u64) -> bool {
+        if place > 0 {
+            tally.answered(format!("report {:?} of a {}", &seen[13..], if seen[0] == 3 { "subtree" } else { "leaf" }));
+        }
+        seen[13..] == reports::tree(self.top, place as usize).0
+    }
+}
+
+/// Every report that a tree below the root can have.
+pub const REPORTS: [&str; 7] = [
+    "report [0, 0, 0] of a leaf", "report [1, 0, 1] of a leaf",
+    "report [0, 0, 0] of a subtree", "report [1, 1, 1] of a subtree",
+    "report [1, 0, 1] of a subtree", "report [0, 1, 1] of a subtree", "report [1, 1, 2] of a subtree",
+];
 
 /// By turns the writer's, a loose one, and one of these damaged.
 pub fn stored(seed: u64) -> (Random, Stored) {

@@ -1,10 +1,11 @@
 //! Cursors over stored buffers, in both forms: the answer, the state and all of the arrays after every call.
-use crate::buffers::{Stored, stored};
+use crate::buffers::{Case, REPORTS, Stored, stored};
 use crate::plain_buffer::{Answer, CALLS, Call, Cursor, Open};
 use crate::proved::{self, Stack};
 use crate::random::Random;
+use crate::reports;
 use crate::tally::{Tally, panics};
-use crate::walks::{expected, lent};
+use crate::walks::{expected, lent, list_words};
 use crate::words;
 use tt::{Leaf, TokenTree};
 
@@ -29,13 +30,28 @@ impl Held {
     }
 }
 
+/// The reports of what is handed back are the source's, of the trees at these places.
+fn reported(tally: &mut Tally, case: Case, call: Call, before: &Cursor, answer: &Answer) -> bool {
+    match (answer, before.open.last()) {
+        (Answer::One(seen), Some(open)) if call == Call::End => case.reported(tally, seen, open.place),
+        (Answer::One(seen), _) => case.reported(tally, seen, before.place),
+        (Answer::Two(first, second), _) => {
+            let (_, behind) = reports::tree(case.top, before.place as usize);
+            case.reported(tally, first, before.place) && case.reported(tally, second, behind as u64)
+        }
+        _ => true,
+    }
+}
+
 /// One call by both forms, held to the plain one.
-fn call(tally: &mut Tally, seed: u64, r: &mut Random, s: &Stored, call: Call, held: &mut Held) -> Answer {
+fn call(tally: &mut Tally, case: Case, r: &mut Random, call: Call, held: &mut Held) -> Answer {
+    let (seed, s) = (case.seed, case.stored);
     let before = held.cursor.clone();
     let mut then = before.clone();
     let answer = s.plain().cursor(call, &mut then);
-    let (next, words) = lent(r, 26);
-    let short = next.len() < 3 || words.len() < 26;
+    let reported = reported(tally, case, call, &before, &answer);
+    let (next, words) = lent(r, 32);
+    let short = next.len() < 3 || words.len() < 32;
     let told = if short { Answer::Refused(6, 0) } else { answer };
     tally.answered(format!("{call:?}, {}", told.sort()));
     let want = expected(&told, [then.place, then.number, then.open.len() as u64], &next, &words);
@@ -49,7 +65,7 @@ fn call(tally: &mut Tally, seed: u64, r: &mut Random, s: &Stored, call: Call, he
         let (mut ours, mut next, mut words) = (held.stack.clone(), next.clone(), words.clone());
         let at = (before.place as usize, before.number as u32, before.open.len());
         let reply = proved::cursor(by_value, s.lent(), call as u32, at, &mut ours, &mut next, &mut words);
-        let same = reply == want.reply && next == want.next && words == want.words && ours == *after;
+        let same = reply == want.reply && next == want.next && words == want.words && ours == *after && reported;
         tally.case(same, || {
             format!("{call:?} in buffer {seed}, by value {by_value}, from {before:?}: {reply:?}, wanted {:?}", want.reply)
         });
@@ -58,12 +74,12 @@ fn call(tally: &mut Tally, seed: u64, r: &mut Random, s: &Stored, call: Call, he
     answer
 }
 
-fn leaves(both: Option<[Leaf; 2]>) -> Answer {
+fn leaves(both: Option<[Leaf; 2]>) -> Answer<[u32; 13]> {
     both.map_or(Answer::None, |[a, b]| Answer::Two(words::words(&TokenTree::Leaf(a)), words::words(&TokenTree::Leaf(b))))
 }
 
 /// What the source answers; it gives up where ours is 10.
-fn theirs(cursor: &mut tt::buffer::Cursor<'_>, call: Call, refused: bool) -> Answer {
+fn theirs(cursor: &mut tt::buffer::Cursor<'_>, call: Call, refused: bool) -> Answer<[u32; 13]> {
     match call {
         Call::Bump | Call::End if refused => {
             let gave_up = panics(|| if call == Call::Bump { cursor.bump() } else { _ = cursor.end() });
@@ -84,23 +100,22 @@ fn theirs(cursor: &mut tt::buffer::Cursor<'_>, call: Call, refused: bool) -> Ans
 }
 
 /// To the end and beyond; the source goes along over a buffer that the check passes.
-fn from_the_start(tally: &mut Tally, seed: u64, r: &mut Random, s: &Stored) -> Vec<Cursor> {
-    let source = s.source();
-    let mut cursor = source.as_ref().map(|top| top.as_token_trees().cursor());
+fn from_the_start(tally: &mut Tally, case: Case, r: &mut Random, passes: bool) -> Vec<Cursor> {
+    let mut cursor = passes.then(|| case.top.as_token_trees().cursor());
     let mut held = Held::new(r, Cursor { number: 0, place: 0, open: vec![] });
     let on = r.pick(&[1, 2, 4]);
     let (mut seen, mut stuck) = (vec![held.cursor.clone()], 0);
     while stuck < 12 {
         let now = if r.one_in(on) { r.pick(&CALLS[..]) } else { Call::BumpOrEnd };
         let before = (held.cursor.number, held.cursor.open.len());
-        let answer = call(tally, seed, r, s, now, &mut held);
+        let answer = call(tally, case, r, now, &mut held);
         if let Some(cursor) = &mut cursor {
             let theirs = theirs(cursor, now, answer == Answer::Refused(10, 0));
             tally.answered(format!("source's {now:?}, {}", theirs.sort()));
             let c = &held.cursor;
-            let state = (c.number as usize, s.bytes.len() - c.place as usize, c.open.len());
-            tally.case(answer == theirs && state == cursor.state(), || {
-                format!("source's {now:?} in buffer {seed} behind {before:?}: {theirs:?}, ours {answer:?}")
+            let state = (c.number as usize, case.stored.bytes.len() - c.place as usize, c.open.len());
+            tally.case(answer.map(list_words) == theirs && state == cursor.state(), || {
+                format!("source's {now:?} in buffer {} behind {before:?}: {theirs:?}, ours {answer:?}", case.seed)
             });
         }
         stuck = if before == (held.cursor.number, held.cursor.open.len()) { stuck + 1 } else { 0 };
@@ -152,14 +167,15 @@ fn full(r: &mut Random, s: &Stored, seen: &[Cursor]) -> Cursor {
 pub fn run(tally: &mut Tally, buffers: u64) {
     for seed in 0..buffers {
         let (mut r, s) = stored(seed);
-        let r = &mut r;
-        let seen = from_the_start(tally, seed, r, &s);
+        let (passes, top) = (s.plain().check().is_ok(), s.unchecked());
+        let (case, r) = (Case { seed, stored: &s, top: &top }, &mut r);
+        let seen = from_the_start(tally, case, r, passes);
         for i in 0..8 {
             let from = if i == 0 { full(r, &s, &seen) } else { invented(r, &s, &seen) };
             let mut held = Held::new(r, from);
             for _ in 0..3 {
                 let now = r.pick(&CALLS[..]);
-                call(tally, seed, r, &s, now, &mut held);
+                call(tally, case, r, now, &mut held);
             }
         }
     }
@@ -177,6 +193,7 @@ pub fn run(tally: &mut Tally, buffers: u64) {
         "source's TokenTree, one", "source's TokenTree, none", "source's PeekTwoLeaves, two", "source's PeekTwoLeaves, none",
     ];
     tally.assert_answered(&answers, buffers / 100);
+    tally.assert_answered(&REPORTS, buffers / 100);
     // 256 subtrees are open before the tree's number in long lists alone
     tally.assert_answered(&["Bump, refused 4", "BumpOrEnd, refused 4"], buffers / 1_000);
 }

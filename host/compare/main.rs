@@ -3,6 +3,7 @@ mod buffers;
 mod builders;
 mod builders_random;
 mod cursors;
+mod forms;
 mod lists;
 mod machine;
 mod maker;
@@ -15,6 +16,7 @@ mod plain_replace;
 mod proved;
 mod random;
 mod replace;
+mod reports;
 mod roots;
 mod source_builder;
 mod stack;
@@ -22,6 +24,7 @@ mod steps;
 mod tally;
 mod tree;
 mod walks;
+mod widened;
 mod words;
 
 use tally::Tally;
@@ -30,18 +33,21 @@ fn main() {
     let many: u64 = std::env::args().nth(1).map_or(1, |x| x.parse().expect("how many times the usual number"));
     // all parts are run, unless a word is given that their names must hold
     let word = std::env::args().nth(2).unwrap_or_default();
-    let parts: [(&str, &dyn Fn(&mut Tally)); 24] = [
+    let parts: [(&str, &dyn Fn(&mut Tally)); 27] = [
         ("spans and symbols written", &|t| pack::write(t)),
         ("spans and symbols read", &|t| pack::read(t)),
+        ("spans read, every form", &|t| forms::read_spans(t, 100_000 * many)),
         ("trees written", &|t| tree::write(t, 1_000_000 * many)),
         ("roots written", &|t| tree::write_roots(t, 200_000 * many)),
         ("trees read", &|t| tree::read(t, 50_000 * many)),
+        ("trees read, every form with every form of its spans", &|t| forms::read_trees(t)),
         ("one tree over tables of every size", &|t| tree::sizes(t)),
         ("lists written", &|t| lists::write(t, 40_000 * many)),
         ("tables made", &|t| lists::tables(t, 40_000 * many)),
         ("damaged lists", &|t| lists::damaged(t, 40_000 * many)),
         ("largest lists, stack of 1 MB", &|t| stack::run(t)),
         ("buffers checked", &|t| buffers::check(t, 40_000 * many)),
+        ("spans of lists written and widened", &|t| widened::run(t, 20_000 * many)),
         ("walks", &|t| walks::run(t, 40_000 * many)),
         ("cursors", &|t| cursors::run(t, 40_000 * many)),
         ("lists of calls beside the plain machine", &|t| machine::run(t, 40_000 * many)),

@@ -1,10 +1,12 @@
 //! Spans and symbols: every field at its limits, one below and one above; random bytes read.
+use crate::plain;
 use crate::proved;
 use crate::random::Random;
+use crate::reports;
 use crate::tally::{Tally, panics};
 use tt::TopSubtree;
 
-fn around(limits: &[u64]) -> Vec<u32> {
+pub fn around(limits: &[u64]) -> Vec<u32> {
     let near = limits.iter().flat_map(|&l| [l.saturating_sub(1), l, l + 1]);
     let mut values: Vec<u32> = near.filter_map(|v| u32::try_from(v).ok()).collect();
     values.sort();
@@ -63,21 +65,31 @@ pub fn write(tally: &mut Tally) {
     }
 }
 
+/// The span at the front of 12 bytes or more: the plain reader's words, the source's numbers, and what its packing says of their bytes. One
+/// byte less is 7, one word less 6.
+pub fn reads_alike(bytes: &[u8]) -> bool {
+    let (want, next) = plain::read_span(bytes, 0).expect("12 bytes hold every span");
+    let [index, start, len, extra, loose] = want;
+    let source = if start.checked_add(len).is_none() {
+        // the source makes the range at once
+        panics(|| TopSubtree::decode_span_bytes(bytes))
+    } else {
+        TopSubtree::decode_span_bytes(bytes) == (index as usize, start, len, next)
+    };
+    let reported = extra == u32::from(bytes[0] % 4) && loose == reports::loose([index, start, len], next);
+    let mut words = [0xAAAA; 5];
+    let cut = proved::decode_span(&bytes[..next - 1], 0, &mut words) == Err(7);
+    let short = proved::decode_span(bytes, 0, &mut words[..4]) == Err(6);
+    let untouched = words == [0xAAAA; 5];
+    let read = proved::decode_span(bytes, 0, &mut words) == Ok(next as u64) && words == want;
+    source && reported && cut && short && untouched && read
+}
+
 pub fn read(tally: &mut Tally) {
     let mut random = Random::new(1);
     for _ in 0..200_000 {
         let bytes: Vec<u8> = (0..12).map(|_| random.next() as u8).collect();
-        let mut w = [0; 4];
-        let next = proved::decode_span(&bytes, 0, &mut w).expect("12 bytes hold every span") as usize;
-        let too_long = w[1].checked_add(w[2]).is_none();
-        let same = if too_long {
-            // the source makes the range at once
-            panics(|| TopSubtree::decode_span_bytes(&bytes))
-        } else {
-            TopSubtree::decode_span_bytes(&bytes) == (w[0] as usize, w[1], w[2], next)
-        };
-        let cut = proved::decode_span(&bytes[..next - 1], 0, &mut w) == Err(7);
-        tally.case(same && cut, || format!("unspan {bytes:02x?}"));
+        tally.case(reads_alike(&bytes), || format!("unspan {bytes:02x?}"));
     }
     // one entry at a time is not 0
     let mut table = vec![0; 1 << 29];

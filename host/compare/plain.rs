@@ -18,6 +18,19 @@ pub enum Tree {
 
 pub const LAST: u64 = u32::MAX as u64;
 
+/// 1 or 0 for the opening span and for the closing one, whether it stands in more bytes than its numbers need, and how many of the spans
+/// that the tree stores do. A leaf has no closing one.
+pub type Report = [u32; 3];
+
+#[derive(Clone, Copy, Debug)]
+pub struct Read {
+    pub tree: Tree,
+    /// The place behind it.
+    pub next: u64,
+    pub children: u64,
+    pub report: Report,
+}
+
 // ---- reading
 
 struct Bytes<'a> {
@@ -33,8 +46,9 @@ impl Bytes<'_> {
         self.at += n;
         Ok(taken.iter().rev().fold(0, |v, &b| 256 * v + u64::from(b)))
     }
-    /// Extra bits and span.
-    fn span(&mut self) -> Result<(u64, Span), u64> {
+    /// Extra bits, span, and 1 if fewer bytes hold its three numbers.
+    fn span(&mut self) -> Result<(u64, Span, u32), u64> {
+        let from = self.at;
         let first = self.number(4)?;
         let (mut index, mut len, mut start) = (first / 4 % 16, first / 64 % 256, first / 32768);
         if first / 16384 % 2 == 1 {
@@ -50,7 +64,9 @@ impl Bytes<'_> {
                 start += 131072 * (rest / 281474976710656);
             }
         }
-        Ok((first % 4, Span { index, start, len }))
+        let span = Span { index, start, len };
+        let least = span_bytes(0, span, 0).len();
+        Ok((first % 4, span, u32::from(least < self.at - from)))
     }
     /// Index and tag bit.
     fn symbol(&mut self) -> Result<(u64, u64), u64> {
@@ -65,16 +81,17 @@ impl Bytes<'_> {
         }
         Ok((index, first % 2))
     }
-    /// A tree and its children bytes; no field judged but a long literal's kind.
-    fn tree(&mut self) -> Result<(Tree, u64), u64> {
-        let (extra, span) = self.span()?;
+    /// A tree, its children bytes and its report; no field judged but a long literal's kind.
+    fn tree(&mut self) -> Result<(Tree, u64, Report), u64> {
+        let (extra, span, loose) = self.span()?;
+        let leaf = [loose, 0, loose];
         if extra % 2 == 1 {
             let x = self.number(1)?;
-            return Ok((Tree::Punct { span, char: x / 2, spacing: x % 2 + extra / 2 * 2 }, 0));
+            return Ok((Tree::Punct { span, char: x / 2, spacing: x % 2 + extra / 2 * 2 }, 0, leaf));
         }
         if extra == 2 {
             let (symbol, raw) = self.symbol()?;
-            return Ok((Tree::Ident { span, symbol, raw }, 0));
+            return Ok((Tree::Ident { span, symbol, raw }, 0, leaf));
         }
         let control = self.number(1)?;
         let delimiter = control / 8 % 4;
@@ -83,22 +100,23 @@ impl Bytes<'_> {
             0 => {
                 let open = Span { len: 1, ..span };
                 let close = moved(open, span.index, span.len | (control / 32 * 256));
-                (Tree::Subtree { open, close, count: self.number(1)?, kind: delimiter }, self.number(1)?)
+                (Tree::Subtree { open, close, count: self.number(1)?, kind: delimiter }, self.number(1)?, [loose; 3])
             }
             1 => {
                 let close = moved(span, span.index, control / 32);
-                (Tree::Subtree { open: span, close, count: self.number(1)?, kind: delimiter }, self.number(1)?)
+                (Tree::Subtree { open: span, close, count: self.number(1)?, kind: delimiter }, self.number(1)?, [loose; 3])
             }
             2 => {
                 let (distance, count, packed) = (self.number(1)?, self.number(1)?, self.number(2)?);
                 let close = moved(span, control / 32 + packed % 16 * 8, distance);
-                (Tree::Subtree { open: span, close, count, kind: delimiter }, packed / 16)
+                (Tree::Subtree { open: span, close, count, kind: delimiter }, packed / 16, [loose; 3])
             }
             5 => {
-                let (_, close) = self.span()?;
-                (Tree::Subtree { open: span, close, count: self.number(4)?, kind: control / 8 }, self.number(4)?)
+                let (_, close, closing) = self.span()?;
+                let report = [loose, closing, loose + closing];
+                (Tree::Subtree { open: span, close, count: self.number(4)?, kind: control / 8 }, self.number(4)?, report)
             }
-            6 => (Tree::Punct { span, char: self.number(4)?, spacing: control / 8 }, 0),
+            6 => (Tree::Punct { span, char: self.number(4)?, spacing: control / 8 }, 0, leaf),
             7 => {
                 let kind = control / 8;
                 if kind > 10 {
@@ -106,11 +124,11 @@ impl Bytes<'_> {
                 }
                 let raw_count = if matches!(kind, 5 | 7 | 9) { self.number(1)? } else { 0 };
                 let suffix = self.number(1)?;
-                (Tree::Literal { span, symbol: self.symbol()?.0, kind, raw_count, suffix }, 0)
+                (Tree::Literal { span, symbol: self.symbol()?.0, kind, raw_count, suffix }, 0, leaf)
             }
             _ => {
                 let (kind, raw_count) = [(4, 0), (5, 0), (5, 1), (2, 0)][(control / 4 % 4) as usize];
-                (Tree::Literal { span, symbol: self.symbol()?.0, kind, raw_count, suffix: control / 16 }, 0)
+                (Tree::Literal { span, symbol: self.symbol()?.0, kind, raw_count, suffix: control / 16 }, 0, leaf)
             }
         })
     }
@@ -141,17 +159,24 @@ pub fn indexed(tree: &Tree, n: u64, parts: u64, symbols: u64) -> bool {
     }
 }
 
-/// Tree number n at a place: the tree, the place behind it and its children bytes, or 7, 2 or 8.
-pub fn read(bytes: &[u8], at: usize, n: u64, parts: u64, symbols: u64) -> Result<(Tree, usize, u64), u64> {
+/// Index, start, length, extra bits, 1 if fewer bytes hold these three numbers, and the place behind.
+pub fn read_span(bytes: &[u8], at: usize) -> Result<([u32; 5], usize), u64> {
     let mut from = Bytes { bytes, at };
-    let (tree, children) = from.tree()?;
+    let (extra, span, loose) = from.span()?;
+    Ok(([span.index as u32, span.start as u32, span.len as u32, extra as u32, loose], from.at))
+}
+
+/// Tree number n at a place, or 7, 2 or 8.
+pub fn read(bytes: &[u8], at: usize, n: u64, parts: u64, symbols: u64) -> Result<Read, u64> {
+    let mut from = Bytes { bytes, at };
+    let (tree, children, report) = from.tree()?;
     if !in_range(&tree) || (n == 0 && from.at != at + 33) {
         return Err(2);
     }
     if !indexed(&tree, n, parts, symbols) {
         return Err(8);
     }
-    Ok((tree, from.at, children))
+    Ok(Read { tree, next: from.at as u64, children, report })
 }
 
 // ---- writing, in any form

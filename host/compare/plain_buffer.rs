@@ -1,5 +1,5 @@
 //! The scope paper's check, walk and cursor over a stored buffer, a second time, without regard to speed.
-use crate::plain::{self, Tree};
+use crate::plain::{self, Read, Tree};
 use crate::plain_list::{Refusal, TREES, nest};
 
 /// A stored buffer with its stated tree count and its tables.
@@ -11,16 +11,29 @@ pub struct Buffer<'a> {
     pub symbols: &'a [u32],
 }
 
+/// The 13 list words of a tree, then its report.
+pub type Seen = [u32; 16];
+
 #[derive(Clone, Copy, Debug, PartialEq, Eq)]
-pub enum Answer {
+pub enum Answer<T = Seen> {
     Done,
     None,
-    One([u32; 13]),
-    Two([u32; 13], [u32; 13]),
+    One(T),
+    Two(T, T),
     Refused(u64, u64),
 }
 
-impl Answer {
+impl<T> Answer<T> {
+    pub fn map<U>(self, f: impl Fn(T) -> U) -> Answer<U> {
+        match self {
+            Answer::Done => Answer::Done,
+            Answer::None => Answer::None,
+            Answer::One(t) => Answer::One(f(t)),
+            Answer::Two(t, u) => Answer::Two(f(t), f(u)),
+            Answer::Refused(r, n) => Answer::Refused(r, n),
+        }
+    }
+
     /// "refused 7", or what is handed back.
     pub fn sort(&self) -> String {
         match self {
@@ -42,14 +55,16 @@ impl Buffer<'_> {
             && self.symbols.len() <= TREES
     }
 
-    pub fn read(&self, n: u64, at: u64) -> Result<(Tree, u64, u64), u64> {
-        let (tree, next, children) = plain::read(self.bytes, at as usize, n, (self.part_words.len() / 3) as u64, self.symbols.len() as u64)?;
-        Ok((tree, next as u64, children))
+    pub fn read(&self, n: u64, at: u64) -> Result<Read, u64> {
+        plain::read(self.bytes, at as usize, n, (self.part_words.len() / 3) as u64, self.symbols.len() as u64)
     }
 
-    fn words(&self, tree: &Tree) -> [u32; 13] {
+    fn seen(&self, read: &Read) -> Seen {
         let parts: Vec<[u32; 3]> = self.part_words.chunks_exact(3).map(|w| [w[0], w[1], w[2]]).collect();
-        plain::words(tree, &parts, self.symbols)
+        let mut seen = [0; 16];
+        seen[..13].copy_from_slice(&plain::words(&read.tree, &parts, self.symbols));
+        seen[13..].copy_from_slice(&read.report);
+        seen
     }
 
     pub fn check(&self) -> Result<(), Refusal> {
@@ -58,10 +73,10 @@ impl Buffer<'_> {
         }
         let (mut trees, mut places, mut children) = (Vec::new(), vec![0], Vec::new());
         for n in 0..self.trees {
-            let (tree, next, bytes) = self.read(n, places[n as usize]).map_err(|r| (r, n))?;
-            trees.push(tree);
-            places.push(next);
-            children.push(bytes);
+            let read = self.read(n, places[n as usize]).map_err(|r| (r, n))?;
+            trees.push(read.tree);
+            places.push(read.next);
+            children.push(read.children);
         }
         if places[trees.len()] != self.bytes.len() as u64 {
             return Err((9, self.trees));
@@ -90,13 +105,20 @@ pub struct Walk {
     pub left: u64,
 }
 
+/// The place of the tree that has a last span, the span's five words, and 1 if fewer bytes hold it.
+#[derive(Clone, Copy, Debug, PartialEq, Eq)]
+pub struct Last {
+    pub place: u64,
+    pub words: [u32; 6],
+}
+
 impl Buffer<'_> {
     pub fn fresh_walk(&self) -> Walk {
         Walk { place: 0, number: 0, left: self.trees }
     }
 
     /// The tree read, or why not, and the next walk.
-    fn step(&self, w: Walk, skip: bool) -> (Result<Option<Tree>, Refusal>, Walk) {
+    fn step(&self, w: Walk, skip: bool) -> (Result<Option<Read>, Refusal>, Walk) {
         if !self.sized() {
             return (Err((1, 0)), w);
         }
@@ -106,46 +128,48 @@ impl Buffer<'_> {
         if w.left == 0 {
             return (Ok(None), w);
         }
-        let (tree, next, children) = match self.read(w.number, w.place) {
+        let read = match self.read(w.number, w.place) {
             Ok(read) => read,
             Err(r) => return (Err((r, w.number)), w),
         };
-        let (mut trees, mut place) = (1, next);
-        if let (true, Some(c)) = (skip, count(&tree)) {
+        let (mut trees, mut place) = (1, read.next);
+        if let (true, Some(c)) = (skip, count(&read.tree)) {
             if c >= w.left {
                 return (Err((3, w.number)), w);
             }
-            if next + children > self.bytes.len() as u64 {
+            if read.next + read.children > self.bytes.len() as u64 {
                 return (Err((9, w.number)), w);
             }
-            (trees, place) = (1 + c, next + children);
+            (trees, place) = (1 + c, read.next + read.children);
         }
-        (Ok(Some(tree)), Walk { place, number: w.number + trees, left: w.left - trees })
+        (Ok(Some(read)), Walk { place, number: w.number + trees, left: w.left - trees })
     }
 
     pub fn walk(&self, w: Walk, skip: bool) -> (Answer, Walk) {
         let (read, next) = self.step(w, skip);
         let answer = match read {
-            Ok(Some(tree)) => Answer::One(self.words(&tree)),
+            Ok(Some(read)) => Answer::One(self.seen(&read)),
             Ok(None) => Answer::None,
             Err((r, n)) => Answer::Refused(r, n),
         };
         (answer, next)
     }
 
-    /// The five words of the last span of the trees that a walk has left.
-    pub fn last_span(&self, mut w: Walk) -> Result<Option<[u32; 5]>, Refusal> {
+    /// The last span of the trees that a walk has left.
+    pub fn last_span(&self, mut w: Walk) -> Result<Option<Last>, Refusal> {
         loop {
             let (read, next) = self.step(w, true);
-            let Some(tree) = read? else { return Ok(None) };
+            let Some(read) = read? else { return Ok(None) };
             if next.left > 0 {
                 w = next;
-            } else if count(&tree).is_some_and(|c| c > 0) {
+            } else if count(&read.tree).is_some_and(|c| c > 0) {
                 w = self.step(w, false).1;
             } else {
-                let words = self.words(&tree);
-                let from = if words[0] == 3 { 8 } else { 3 };
-                return Ok(Some(words[from..from + 5].try_into().unwrap()));
+                let seen = self.seen(&read);
+                let (from, report) = if seen[0] == 3 { (8, seen[14]) } else { (3, seen[13]) };
+                let mut words = [report; 6];
+                words[..5].copy_from_slice(&seen[from..from + 5]);
+                return Ok(Some(Last { place: w.place, words }));
             }
         }
     }
@@ -200,14 +224,14 @@ impl Buffer<'_> {
         if c.number >= self.trees {
             return Ok(Answer::Done);
         }
-        let (tree, next, _) = self.read(c.number, c.place).map_err(|r| (r, c.number))?;
-        if let Some(count) = count(&tree) {
+        let read = self.read(c.number, c.place).map_err(|r| (r, c.number))?;
+        if let Some(count) = count(&read.tree) {
             if c.open.len() >= 256 {
                 return Err((4, c.number));
             }
             c.open.push(Open { number: c.number, count, place: c.place });
         }
-        (c.number, c.place) = (c.number + 1, next);
+        (c.number, c.place) = (c.number + 1, read.next);
         Ok(Answer::Done)
     }
 
@@ -219,12 +243,12 @@ impl Buffer<'_> {
             Call::Bump => self.bump(c),
             Call::End => {
                 let o = *c.open.last().filter(|_| closing).ok_or((10u64, 0u64))?;
-                let (tree, _, _) = self.read(o.number, o.place).map_err(|r| (r, o.number))?;
-                if count(&tree) != Some(o.count) {
+                let read = self.read(o.number, o.place).map_err(|r| (r, o.number))?;
+                if count(&read.tree) != Some(o.count) {
                     return Err((10, 0));
                 }
                 c.open.pop();
-                Ok(Answer::One(self.words(&tree)))
+                Ok(Answer::One(self.seen(&read)))
             }
             Call::BumpOrEnd if closing => {
                 c.open.pop();
@@ -233,18 +257,18 @@ impl Buffer<'_> {
             Call::BumpOrEnd => self.bump(c),
             Call::TokenTree if !within(c.number) => Ok(Answer::None),
             Call::TokenTree => {
-                let (tree, _, _) = self.read(c.number, c.place).map_err(|r| (r, c.number))?;
-                Ok(Answer::One(self.words(&tree)))
+                let read = self.read(c.number, c.place).map_err(|r| (r, c.number))?;
+                Ok(Answer::One(self.seen(&read)))
             }
             Call::PeekTwoLeaves if !within(c.number + 1) => Ok(Answer::None),
             Call::PeekTwoLeaves => {
-                let (first, next, _) = self.read(c.number, c.place).map_err(|r| (r, c.number))?;
-                if count(&first).is_some() {
+                let first = self.read(c.number, c.place).map_err(|r| (r, c.number))?;
+                if count(&first.tree).is_some() {
                     return Ok(Answer::None);
                 }
-                let (second, _, _) = self.read(c.number + 1, next).map_err(|r| (r, c.number + 1))?;
-                let leaf = count(&second).is_none();
-                Ok(if leaf { Answer::Two(self.words(&first), self.words(&second)) } else { Answer::None })
+                let second = self.read(c.number + 1, first.next).map_err(|r| (r, c.number + 1))?;
+                let leaf = count(&second.tree).is_none();
+                Ok(if leaf { Answer::Two(self.seen(&first), self.seen(&second)) } else { Answer::None })
             }
         }
     }

@@ -9,9 +9,9 @@ pub fn held(b: &Buffer) -> Result<Vec<u32>, Refusal> {
     let parts: Vec<[u32; 3]> = b.part_words.chunks(3).map(|w| [w[0], w[1], w[2]]).collect();
     let (mut list, mut at) = (Vec::new(), 0);
     for n in 0..b.trees {
-        let (tree, next, _) = b.read(n, at).expect("a tree that the check passes");
-        list.extend(plain::words(&tree, &parts, b.symbols));
-        at = next;
+        let read = b.read(n, at).expect("a tree that the check passes");
+        list.extend(plain::words(&read.tree, &parts, b.symbols));
+        at = read.next;
     }
     Ok(list)
 }

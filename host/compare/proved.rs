@@ -122,10 +122,10 @@ pub fn encode_symbol(out: &mut [u8], at: usize, tag: u32, index: u32) -> Result<
     reply(unsafe { raw::tt_encode_symbol(out.as_mut_ptr(), out.len(), at, tag, index) })
 }
 
-/// Index, start, length and extra bits go to `words`; the place behind is the answer.
+/// Index, start, length, extra bits and the report (1 if fewer bytes hold the first three) go to `words`; the place behind is the answer.
 #[inline]
-pub fn decode_span(b: &[u8], at: usize, words: &mut [u32; 4]) -> Result<u64, u64> {
-    reply(unsafe { raw::tt_decode_span(b.as_ptr(), b.len(), at, words.as_mut_ptr(), 4) })
+pub fn decode_span(b: &[u8], at: usize, words: &mut [u32]) -> Result<u64, u64> {
+    reply(unsafe { raw::tt_decode_span(b.as_ptr(), b.len(), at, words.as_mut_ptr(), words.len()) })
 }
 
 #[inline]
@@ -133,12 +133,12 @@ pub fn decode_symbol(b: &[u8], at: usize, words: &mut [u32; 2]) -> Result<u64, u
     reply(unsafe { raw::tt_decode_symbol(b.as_ptr(), b.len(), at, words.as_mut_ptr(), 2) })
 }
 
-/// 13 list words and the children bytes go to `words`; the place behind is the answer.
+/// 13 list words, the children bytes and the tree's report go to `words`; the place behind is the answer.
 #[inline]
-pub fn decode_tree(b: &[u8], parts: &[u32], symbols: &[u32], n: u32, at: usize, words: &mut [u32; 14]) -> Result<u64, u64> {
+pub fn decode_tree(b: &[u8], parts: &[u32], symbols: &[u32], n: u32, at: usize, words: &mut [u32]) -> Result<u64, u64> {
     reply(unsafe {
         raw::tt_decode_tree(
-            b.as_ptr(), b.len(), parts.as_ptr(), parts.len(), symbols.as_ptr(), symbols.len(), n, at, words.as_mut_ptr(), 14,
+            b.as_ptr(), b.len(), parts.as_ptr(), parts.len(), symbols.as_ptr(), symbols.len(), n, at, words.as_mut_ptr(), words.len(),
         )
     })
 }
@@ -208,7 +208,7 @@ pub struct Lent<'a> {
     pub symbols: &'a [u32],
 }
 
-/// Place, number and trees left of a walk, before and behind a step. The answer: 0 none, 1 a tree.
+/// Place, number and trees left of a walk, before and behind a step. The answer: 0 none, 1 a tree, whose list words and report are stored.
 #[inline]
 pub fn walk(b: Lent, from: (usize, u32, u32), skip: bool, next: &mut [usize], words: &mut [u32]) -> Result<u64, (u64, u64)> {
     list_reply(unsafe {
@@ -219,6 +219,7 @@ pub fn walk(b: Lent, from: (usize, u32, u32), skip: bool, next: &mut [usize], wo
     })
 }
 
+/// The answer: 0 none, 1 a span, whose words and report are stored.
 pub fn last_span(b: Lent, from: (usize, u32, u32), words: &mut [u32]) -> Result<u64, (u64, u64)> {
     list_reply(unsafe {
         raw::tt_last_span(
@@ -241,7 +242,7 @@ impl Stack {
 }
 
 /// Calls 0 `bump`, 1 `end`, 2 `bump_or_end`, 3 `token_tree`, 4 `peek_two_leaves`; place, number and depth before and behind.
-/// The answer: 0 none, 1 a tree, 2 two leaves, 3 nothing to hand back.
+/// The answer: 0 none, 1 a tree, 2 two leaves, the list words and the report of each being stored, 3 nothing to hand back.
 #[inline]
 pub fn cursor(
     by_value: bool, b: Lent, call: u32, at: (usize, u32, usize), stack: &mut Stack, next: &mut [usize], words: &mut [u32],

@@ -46,7 +46,7 @@ fn lists(tally: &mut Tally, what: &str, list: &[u32]) {
 /// The check, root rewriting, and the first calls of walk and cursor in both forms.
 fn read_alike(bytes: &[u8], trees: u32, parts: &[u32], symbols: &[u32]) -> bool {
     let b = Lent { bytes, trees, parts, symbols };
-    let (mut next, mut words, mut stack) = ([0; 3], [0; 26], Stack::EMPTY);
+    let (mut next, mut words, mut stack) = ([0; 3], [0; 32], Stack::EMPTY);
     let last = proved::last_span(b, (0, 0, trees), &mut words);
     let steps = [false, true].map(|skip| proved::walk(b, (0, 0, trees), skip, &mut next, &mut words));
     let calls = [false, true].map(|by_value| proved::cursor(by_value, b, 2, (0, 0, 0), &mut stack, &mut next, &mut words));
@@ -89,9 +89,9 @@ fn built_alike(list: &[u32], parts: &[u32], symbols: &[u32], work: &mut [u32], b
 
 /// One tree's functions: the root read and written again, its spans, a symbol.
 fn one_tree(bytes: &[u8], list: &[u32], parts: &[u32], symbols: &[u32]) -> bool {
-    let (mut w, mut out) = ([0; 14], [0; 40]);
+    let (mut w, mut out) = ([0; 17], [0; 40]);
     let read = proved::decode_tree(bytes, parts, symbols, 0, 0, &mut w) == Ok(33) && w[..13] == list[..13];
-    let (mut span, mut symbol) = ([0; 4], [0; 2]);
+    let (mut span, mut symbol) = ([0; 5], [0; 2]);
     let opening = proved::decode_span(bytes, 0, &mut span) == Ok(12);
     let spans = opening && proved::encode_span(&mut out, 0, [span[0], span[1], span[2]], 0, true) == Ok(12);
     let part = parts.len() as u32 / 3;

@@ -4,6 +4,7 @@ use crate::pack::held;
 use crate::plain::{self, LAST, Loose, Span, Tree};
 use crate::proved;
 use crate::random::Random;
+use crate::reports;
 use crate::tally::Tally;
 use crate::words;
 use tt::{TokenTree, TopSubtree};
@@ -153,36 +154,48 @@ pub fn write_roots(tally: &mut Tally, trees: u64) {
     }
 }
 
-/// Tables with 40,000 parts before the root's, and 10,000 symbols.
+/// Tables, and the source's buffer over them with one tree at its front.
 pub struct Tables {
-    pub parts: Vec<[u32; 3]>,
-    pub part_words: Vec<u32>,
-    pub symbols: Vec<u32>,
+    parts: Vec<[u32; 3]>,
+    part_words: Vec<u32>,
+    symbols: Vec<u32>,
     top: TopSubtree,
 }
 
-pub fn tables(bytes: &[u8]) -> Tables {
-    let parts: Vec<[u32; 3]> = (0..40002).map(|i| [i, i % 7, i % 3]).collect();
+/// So many parts, the root's two among them, and 10,000 symbols.
+pub fn tables(parts: u32) -> Tables {
+    let parts: Vec<[u32; 3]> = (0..parts).map(|i| [i, i % 7, i % 3]).collect();
     let symbols: Vec<u32> = (0..10000).map(|i| 3 * i + 5).collect();
-    Tables { part_words: parts.concat(), top: TopSubtree::of(0, bytes, &parts, &symbols), parts, symbols }
+    Tables { part_words: parts.concat(), top: TopSubtree::of(0, &[], &parts, &symbols), parts, symbols }
+}
+
+impl Tables {
+    /// The tree that the source reads.
+    pub fn put(&mut self, tree: &[u8]) {
+        self.top.set_bytes(&[tree, &[0; 64]].concat());
+    }
 }
 
 /// Every reading of tree n at a place against the plain one, and against the source where it is admitted.
-fn reads_alike(t: &Tables, bytes: &[u8], at: usize, n: u32) -> bool {
-    let mut got = [0xAAAA; 14];
+pub fn reads_alike(t: &Tables, bytes: &[u8], at: usize, n: u32) -> bool {
+    let mut got = [0xAAAA; 17];
+    let short = proved::decode_tree(bytes, &t.part_words, &t.symbols, n, at, &mut got[..16]) == Err(6) && got == [0xAAAA; 17];
     let reply = proved::decode_tree(bytes, &t.part_words, &t.symbols, n, at, &mut got);
-    match plain::read(bytes, at, n.into(), t.parts.len() as u64, t.symbols.len() as u64) {
-        Err(number) => reply == Err(number) && got == [0xAAAA; 14],
-        Ok((tree, next, children)) => {
-            let want = plain::words(&tree, &t.parts, &t.symbols);
+    short && match plain::read(bytes, at, n.into(), t.parts.len() as u64, t.symbols.len() as u64) {
+        Err(number) => reply == Err(number) && got == [0xAAAA; 17],
+        Ok(read) => {
+            let want = plain::words(&read.tree, &t.parts, &t.symbols);
             let mut walk = t.top.walk_from(0);
             let (source, source_children) = walk.decode();
-            reply == Ok(next as u64)
+            let (report, behind) = reports::tree(&t.top, 0);
+            reply == Ok(read.next)
                 && got[..13] == want
-                && u64::from(got[13]) == children
+                && u64::from(got[13]) == read.children
+                && got[14..] == read.report
                 && words::words(&source) == want
-                && u64::from(source_children) == children
-                && walk.place() == next - at
+                && u64::from(source_children) == read.children
+                && report == read.report
+                && [walk.place(), behind] == [read.next as usize - at; 2]
         }
     }
 }
@@ -198,14 +211,14 @@ pub fn sizes(tally: &mut Tally) {
     for part_words in (0..12).chain(most - 1..most + 4) {
         for count in [0, 1, many, many + 1] {
             for n in [0, 1] {
-                let mut got = [0xAAAA; 14];
+                let mut got = [0xAAAA; 17];
                 let reply = proved::decode_tree(&root, &parts[..part_words], &symbols[..count], n, 0, &mut got);
                 let sized = part_words % 3 == 0 && (6..=most).contains(&part_words) && count <= many;
                 let want = plain::read(&root, 0, n.into(), part_words as u64 / 3, count as u64);
                 let same = match want {
-                    _ if !sized => reply == Err(1) && got == [0xAAAA; 14],
-                    Err(number) => reply == Err(number) && got == [0xAAAA; 14],
-                    Ok((_, next, _)) => reply == Ok(next as u64),
+                    _ if !sized => reply == Err(1) && got == [0xAAAA; 17],
+                    Err(number) => reply == Err(number) && got == [0xAAAA; 17],
+                    Ok(read) => reply == Ok(read.next) && got[14..] == read.report,
                 };
                 tally.case(same, || format!("tree {n} over {part_words} part words, {count} symbols: {reply:?}"));
             }
@@ -216,7 +229,7 @@ pub fn sizes(tally: &mut Tally) {
 /// Trees read in every form, the writer's choice or not, each also cut short at every byte and with a byte changed.
 pub fn read(tally: &mut Tally, trees: u64) {
     let mut r = Random::new(4);
-    let mut t = tables(&[]);
+    let mut t = tables(40002);
     for i in 0..trees {
         let root = i % 16 == 0;
         let how = loose(&mut r);
@@ -231,13 +244,13 @@ pub fn read(tally: &mut Tally, trees: u64) {
         let n = if root { 0 } else { 1 + r.below(3) as u32 };
         let at = r.below(4) as usize;
         let whole = bytes.len();
-        t.top.set_bytes(&[&bytes[..], &[0; 64]].concat());
+        t.put(&bytes);
         for cut in 0..=whole + 1 {
             // at whole + 1 one byte is changed
             if cut == whole + 1 {
                 let place = r.below(whole as u64) as usize;
                 bytes[place] ^= 1 << r.below(8);
-                t.top.set_bytes(&[&bytes[..], &[0; 64]].concat());
+                t.put(&bytes);
             }
             let mut buffer = vec![0x5A; at];
             buffer.extend(&bytes[..cut.min(whole)]);

@@ -1,11 +1,11 @@
 //! Walks over stored buffers: the answer and the next walk after every step, and the last span of what a walk has left.
-use crate::buffers::{Stored, stored};
-use crate::plain_buffer::{Answer, Walk};
+use crate::buffers::{Case, REPORTS, Stored, stored};
+use crate::plain_buffer::{Answer, Last, Seen, Walk};
 use crate::proved;
 use crate::random::Random;
+use crate::reports;
 use crate::tally::Tally;
 use crate::words;
-use tt::TopSubtree;
 use tt::iter::{TtElement, TtIter};
 
 /// What a call leaves in lent words; past what it stores they are unchanged.
@@ -29,12 +29,12 @@ pub fn expected(answer: &Answer, state: [u64; 3], next: &[usize], words: &[u32])
         Answer::None => Ok(0),
         Answer::Done => Ok(3),
         Answer::One(t) => {
-            words[..13].copy_from_slice(&t);
+            words[..16].copy_from_slice(&t);
             Ok(1)
         }
         Answer::Two(t, u) => {
-            words[..13].copy_from_slice(&t);
-            words[13..26].copy_from_slice(&u);
+            words[..16].copy_from_slice(&t);
+            words[16..32].copy_from_slice(&u);
             Ok(2)
         }
     };
@@ -42,41 +42,48 @@ pub fn expected(answer: &Answer, state: [u64; 3], next: &[usize], words: &[u32])
     Left { reply, next, words }
 }
 
+/// The list words, which are all that the source hands back.
+pub fn list_words(seen: Seen) -> [u32; 13] {
+    seen[..13].try_into().unwrap()
+}
+
 fn numbers(w: Walk) -> (usize, u32, u32) {
     (w.place as usize, w.number as u32, w.left as u32)
 }
 
 /// One step, held to the plain one.
-fn step(tally: &mut Tally, seed: u64, r: &mut Random, s: &Stored, w: Walk, skip: bool) -> (Answer, Walk) {
+fn step(tally: &mut Tally, case: Case, r: &mut Random, w: Walk, skip: bool) -> (Answer, Walk) {
+    let (seed, s) = (case.seed, case.stored);
     let (answer, then) = s.plain().walk(w, skip);
-    let (next, words) = lent(r, 13);
-    let short = next.len() < 3 || words.len() < 13;
+    let reported = if let Answer::One(seen) = &answer { case.reported(tally, seen, w.place) } else { true };
+    let (next, words) = lent(r, 16);
+    let short = next.len() < 3 || words.len() < 16;
     let told = if short { Answer::Refused(6, 0) } else { answer };
     tally.answered(format!("{}, {}", if skip { "skip" } else { "advance" }, told.sort()));
     let want = expected(&told, [then.place, then.number, then.left], &next, &words);
     let (mut next, mut words) = (next, words);
     let reply = proved::walk(s.lent(), numbers(w), skip, &mut next, &mut words);
-    let same = reply == want.reply && next == want.next && words == want.words;
+    let same = reply == want.reply && next == want.next && words == want.words && reported;
     tally.case(same, || format!("walk in buffer {seed} from {w:?}, skip {skip}: {reply:?}, wanted {:?}", want.reply));
     (answer, then)
 }
 
 /// To the end and beyond; the source goes along over a buffer that the check passes.
-fn from_the_start(tally: &mut Tally, seed: u64, r: &mut Random, s: &Stored, source: Option<&TopSubtree>) -> Vec<Walk> {
-    let mut w = s.plain().fresh_walk();
-    let mut theirs = source.map(|top| top.walk_from(0));
+fn from_the_start(tally: &mut Tally, case: Case, r: &mut Random, passes: bool) -> Vec<Walk> {
+    let mut w = case.stored.plain().fresh_walk();
+    let mut theirs = passes.then(|| case.top.walk_from(0));
     let skips = r.pick(&[1, 2, 3, 10, 1_000_000]);
     let (mut seen, mut stuck) = (vec![w], 0);
     while stuck < 3 {
         // the root is gone past only now and then
         let skip = r.one_in(skips) && (w.number > 0 || r.one_in(4));
-        let (answer, then) = step(tally, seed, r, s, w, skip);
+        let (answer, then) = step(tally, case, r, w, skip);
         if let Some(walk) = &mut theirs {
             let tree = if skip { walk.advance_skip_subtree() } else { walk.advance() };
             let theirs = tree.map_or(Answer::None, |t| Answer::One(words::words(&t)));
-            let same = answer == theirs && walk.place() as u64 == then.place;
+            let same = answer.map(list_words) == theirs && walk.place() as u64 == then.place;
             tally.answered(format!("source's {}", theirs.sort()));
-            tally.case(same, || format!("source's walk in buffer {seed} from {w:?}, skip {skip}: {theirs:?}, ours {answer:?}"));
+            tally.case(same, || format!("source's walk in buffer {} from {w:?}, skip {skip}: {theirs:?}, ours {answer:?}", case.seed));
         }
         stuck = if then == w { stuck + 1 } else { 0 };
         w = then;
@@ -104,40 +111,45 @@ fn invented(r: &mut Random, s: &Stored, seen: &[Walk]) -> Walk {
     w
 }
 
-fn last_span(tally: &mut Tally, seed: u64, r: &mut Random, s: &Stored, w: Walk) -> Option<Option<[u32; 5]>> {
-    let answer = s.plain().last_span(w);
-    let words = vec![99; r.pick(&[4, 5, 5, 5, 5, 5, 5, 6])];
-    let mut left = words.clone();
+/// What the plain version says, where it is no refusal.
+fn last_span(tally: &mut Tally, case: Case, r: &mut Random, w: Walk) -> Option<Option<Last>> {
+    let answer = case.stored.plain().last_span(w);
+    let words = vec![99; r.pick(&[5, 6, 6, 6, 6, 6, 6, 7])];
+    let (mut left, mut reported) = (words.clone(), true);
     let reply = match answer {
-        _ if words.len() < 5 => Err((6, 0)),
+        _ if words.len() < 6 => Err((6, 0)),
         Err(refusal) => Err(refusal),
         Ok(None) => Ok(0),
-        Ok(Some(span)) => {
-            left[..5].copy_from_slice(&span);
+        Ok(Some(last)) => {
+            left[..6].copy_from_slice(&last.words);
+            reported = last.words[5] == reports::last(case.top, last.place as usize);
+            tally.answered(format!("last span {}", last.words[5]));
             Ok(1)
         }
     };
     let mut words = words;
-    let ours = proved::last_span(s.lent(), numbers(w), &mut words);
-    tally.case(ours == reply && words == left, || format!("last span in buffer {seed} from {w:?}: {ours:?}, wanted {reply:?}"));
+    let ours = proved::last_span(case.stored.lent(), numbers(w), &mut words);
+    let same = ours == reply && words == left && reported;
+    tally.case(same, || format!("last span in buffer {} from {w:?}: {ours:?}, wanted {reply:?}", case.seed));
     answer.ok()
 }
 
 /// The last span of what is left at each place of a run of siblings, and so inside each of them.
-fn last_spans(tally: &mut Tally, seed: u64, r: &mut Random, s: &Stored, mut iter: TtIter<'_>, mut w: Walk) {
+fn last_spans(tally: &mut Tally, case: Case, r: &mut Random, mut iter: TtIter<'_>, mut w: Walk) {
     loop {
         if r.one_in(8) || w.number < 4 {
             let theirs = iter.remaining().last_span().map(|x| words::span_words(&x));
-            let ours = last_span(tally, seed, r, s, w);
-            tally.case(ours == Some(theirs), || format!("source's last span in buffer {seed} from {w:?}: {theirs:?}, ours {ours:?}"));
+            let ours = last_span(tally, case, r, w);
+            let spans = ours.map(|last| last.map(|x| x.words[..5].try_into().unwrap()));
+            tally.case(spans == Some(theirs), || format!("source's last span in buffer {} from {w:?}: {theirs:?}, ours {ours:?}", case.seed));
         }
-        let plain = s.plain();
+        let plain = case.stored.plain();
         match iter.next() {
             None => return,
             Some(TtElement::Leaf(_)) => {}
             Some(TtElement::Subtree(subtree, inside)) => {
                 let into = plain.walk(w, false).1;
-                last_spans(tally, seed, r, s, inside, Walk { left: subtree.len.into(), ..into });
+                last_spans(tally, case, r, inside, Walk { left: subtree.len.into(), ..into });
             }
         }
         w = plain.walk(w, true).1;
@@ -147,19 +159,19 @@ fn last_spans(tally: &mut Tally, seed: u64, r: &mut Random, s: &Stored, mut iter
 pub fn run(tally: &mut Tally, buffers: u64) {
     for seed in 0..buffers {
         let (mut r, s) = stored(seed);
-        let source = s.source();
-        let r = &mut r;
-        let seen = from_the_start(tally, seed, r, &s, source.as_ref());
+        let (passes, top) = (s.plain().check().is_ok(), s.unchecked());
+        let (case, r) = (Case { seed, stored: &s, top: &top }, &mut r);
+        let seen = from_the_start(tally, case, r, passes);
         for _ in 0..6 {
             let mut w = invented(r, &s, &seen);
-            last_span(tally, seed, r, &s, w);
+            last_span(tally, case, r, w);
             for _ in 0..3 {
                 let skip = r.one_in(2);
-                w = step(tally, seed, r, &s, w, skip).1;
+                w = step(tally, case, r, w, skip).1;
             }
         }
-        if let Some(top) = &source {
-            last_spans(tally, seed, r, &s, top.as_token_trees().iter(), s.plain().fresh_walk());
+        if passes {
+            last_spans(tally, case, r, top.as_token_trees().iter(), s.plain().fresh_walk());
         }
     }
     for call in ["advance", "skip"] {
@@ -168,4 +180,6 @@ pub fn run(tally: &mut Tally, buffers: u64) {
         }
     }
     tally.assert_answered(&["skip, refused 3", "skip, refused 9", "source's one", "source's none"], buffers / 100);
+    tally.assert_answered(&REPORTS, buffers / 100);
+    tally.assert_answered(&["last span 0", "last span 1"], buffers / 100);
 }

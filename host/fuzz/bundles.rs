@@ -106,8 +106,8 @@ fn damage_bytes(r: &mut Random, bytes: &mut Vec<u8>) {
 fn places(b: &Bundle) -> Vec<usize> {
     let (parts, symbols) = (b.parts() as u64, (b.records.len() - b.parts()) as u64);
     let mut places = vec![0];
-    while let Ok((_, next, _)) = plain::read(&b.bytes, places[places.len() - 1], places.len() as u64 - 1, parts, symbols) {
-        places.push(next);
+    while let Ok(read) = plain::read(&b.bytes, places[places.len() - 1], places.len() as u64 - 1, parts, symbols) {
+        places.push(read.next as usize);
     }
     places
 }

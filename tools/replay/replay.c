@@ -9,6 +9,9 @@
 
 enum { TREES = 300, PARTS = 2 * TREES, BYTES = 33 * TREES, NOISE = 0xAA };
 
+/* A tree's 13 list words and the three of its report. */
+enum { SEEN = 13 + 3 };
+
 /* The list of the last line `list`, with its tables, its bytes, or those of the last line `loose`; or the buffer of the last line
  * `buffer`. */
 static uint32_t list[13 * TREES], parts[3 * PARTS], symbols[TREES];
@@ -51,11 +54,12 @@ static void span(void) {
 
 static void unspan(void) {
     uint8_t from[12];
-    uint32_t w[4], want[4];
+    uint32_t w[5], want[5];
     size_t len = stored_bytes(from, sizeof from);
-    uint64_t reply = tt_decode_span(from, len, 0, w, 4);
-    stored_numbers(want, 4, 4);
-    held(reply == want[3] && memcmp(w, want, 3 * sizeof *w) == 0 && w[3] == from[0] % 4, "span read");
+    uint64_t reply = tt_decode_span(from, len, 0, w, 5);
+    stored_numbers(want, 5, 5);
+    bool same = reply == want[3] && memcmp(w, want, 3 * sizeof *w) == 0;
+    held(same && w[3] == from[0] % 4 && w[4] == want[4], "span read");
 }
 
 static void symbol(void) {
@@ -162,10 +166,10 @@ static void read_loose(void) {
     held(passes(), "loose buffer checked");
 }
 
-/* A tree or none, as stored. */
+/* A tree with its report or none, as stored. */
 static bool tree_alike(uint64_t reply, const uint32_t *words) {
-    uint32_t want[13];
-    if (!stored_tree(want)) {
+    uint32_t want[SEEN];
+    if (!stored_reported(want)) {
         return reply == 0;
     }
     return reply == 1 && memcmp(words, want, sizeof want) == 0;
@@ -175,10 +179,10 @@ static void walk(void) {
     size_t at[3] = {0, 0, trees};
     bool same = true;
     for (; stored_more(); calls++) {
-        uint32_t words[13];
+        uint32_t words[SEEN];
         bool skip = stored_word()[0] == 's';
         uint64_t reply = tt_walk(bytes, byte_count, (uint32_t)trees, parts, 3 * part_count, symbols, symbol_count, at[0],
-                                 (uint32_t)at[1], (uint32_t)at[2], skip, at, 3, words, 13);
+                                 (uint32_t)at[1], (uint32_t)at[2], skip, at, 3, words, SEEN);
         same &= tree_alike(reply, words);
         same &= at[0] == stored_number() && at[1] + at[2] == trees;
     }
@@ -186,15 +190,15 @@ static void walk(void) {
 }
 
 static void last(void) {
-    uint32_t from[3], words[5], want[5];
+    uint32_t from[3], words[6], want[6];
     stored_numbers(from, 3, 3);
     uint64_t reply = tt_last_span(bytes, byte_count, (uint32_t)trees, parts, 3 * part_count, symbols, symbol_count, from[0],
-                                  from[1], from[2], words, 5);
+                                  from[1], from[2], words, 6);
     if (from[2] == 0) {
         held(stored_word()[0] == '-' && reply == 0, "no last span");
         return;
     }
-    stored_numbers(want, 5, 5);
+    stored_numbers(want, 6, 6);
     held(reply == 1 && memcmp(words, want, sizeof want) == 0, "last span");
 }
 
@@ -209,12 +213,12 @@ struct cursor {
 /* The answer and the state behind it, of a cursor in one of its forms. */
 static uint64_t cursor_call(tt_cursor_call *form, struct cursor *c, uint32_t call, uint32_t *words) {
     return form(bytes, byte_count, (uint32_t)trees, parts, 3 * part_count, symbols, symbol_count, call, c->at[0],
-                (uint32_t)c->at[1], c->at[2], c->numbers, c->counts, c->places, c->at, 3, words, 26);
+                (uint32_t)c->at[1], c->at[2], c->numbers, c->counts, c->places, c->at, 3, words, 2 * SEEN);
 }
 
 /* The source gives up where ours is 10. */
 static bool cursor_alike(uint64_t reply, const uint32_t *words) {
-    uint32_t want[26];
+    uint32_t want[2 * SEEN];
     switch (stored_word()[0]) {
     case '!':
         return refused(reply, 10);
@@ -223,11 +227,11 @@ static bool cursor_alike(uint64_t reply, const uint32_t *words) {
     case '-':
         return reply == 0;
     case 't':
-        stored_tree(want);
-        return reply == 1 && memcmp(words, want, 13 * sizeof *want) == 0;
+        stored_reported(want);
+        return reply == 1 && memcmp(words, want, SEEN * sizeof *want) == 0;
     default:
-        stored_tree(want);
-        stored_tree(want + 13);
+        stored_reported(want);
+        stored_reported(want + SEEN);
         return reply == 2 && memcmp(words, want, sizeof want) == 0;
     }
 }
@@ -243,7 +247,7 @@ static void cursor(void) {
         if (letter == NULL) {
             stored_bad("no such call");
         }
-        uint32_t words[26] = {0}, others[26] = {0};
+        uint32_t words[2 * SEEN] = {0}, others[2 * SEEN] = {0};
         uint32_t call = (uint32_t)(letter - letters);
         uint64_t reply = cursor_call(tt_cursor, &lent, call, words);
         same &= cursor_call(tt_cursor_by_value, &by_value, call, others) == reply;
@@ -324,15 +328,17 @@ static bool same_set(const uint32_t *entries, size_t n, size_t words, size_t las
     return same && memcmp(entries + words * (n - last), due + words * (n - last), words * last * sizeof *due) == 0;
 }
 
-/* The new buffer over the new tables passes the check and reads as the stored list; the tables are the source's as sets. */
+/* The new buffer over the new tables passes the check and reads as the stored list, and no span below the root is loose; the
+ * tables are the source's as sets. */
 static bool fresh_alike(const size_t *told) {
     bool same = tt_check_buffer(fresh.bytes, told[0], (uint32_t)trees, fresh.parts, 3 * told[1], fresh.symbols, told[2]) == 0;
     size_t at[3] = {0, 0, trees};
     for (size_t i = 0; i < trees; i++) {
-        uint32_t words[13];
+        uint32_t words[SEEN], want[13];
         uint64_t reply = tt_walk(fresh.bytes, told[0], (uint32_t)trees, fresh.parts, 3 * told[1], fresh.symbols, told[2], at[0],
-                                 (uint32_t)at[1], (uint32_t)at[2], false, at, 3, words, 13);
-        same &= tree_alike(reply, words);
+                                 (uint32_t)at[1], (uint32_t)at[2], false, at, 3, words, SEEN);
+        same &= stored_tree(want) && reply == 1 && memcmp(words, want, sizeof want) == 0;
+        same &= i == 0 || (words[13] | words[14] | words[15]) == 0;
     }
     same = same_set(fresh.parts, told[1], 3, 2) && same;
     return same_set(fresh.symbols, told[2], 1, 0) && same;

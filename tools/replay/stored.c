@@ -124,3 +124,11 @@ bool stored_tree(uint32_t *to) {
     stored_numbers(to + 1, to[0] == 3 ? 12 : 7, 12);
     return true;
 }
+
+bool stored_reported(uint32_t *to) {
+    bool tree = stored_tree(to);
+    if (tree) {
+        stored_numbers(to + 13, 3, 3);
+    }
+    return tree;
+}

@@ -27,5 +27,7 @@ void stored_numbers(uint32_t *to, size_t n, size_t room);
 size_t stored_bytes(uint8_t *to, size_t room);
 /* The 13 list words of a tree; a leaf's last five, which are zero, are not stored. False for `-`. */
 bool stored_tree(uint32_t *to);
+/* The same, and the three words of its report. */
+bool stored_reported(uint32_t *to);
 
 #endif

@@ -13,6 +13,7 @@
 uint64_t tt_encode_span(uint8_t *out, size_t len, size_t at, uint32_t index, uint32_t start, uint32_t length, uint32_t extra,
                         bool heavy);
 uint64_t tt_encode_symbol(uint8_t *out, size_t len, size_t at, uint32_t tag, uint32_t index);
+/* index, start, length, extra bits, and 1 if fewer bytes hold the first three */
 uint64_t tt_decode_span(const uint8_t *b, size_t len, size_t at, uint32_t *words, size_t room);
 uint64_t tt_decode_symbol(const uint8_t *b, size_t len, size_t at, uint32_t *words, size_t room);
 
@@ -24,6 +25,8 @@ uint64_t tt_encode_list(const uint32_t *list, size_t words, const uint32_t *part
 
 uint64_t tt_check_buffer(const uint8_t *b, size_t len, uint32_t trees, const uint32_t *parts, size_t part_words,
                          const uint32_t *symbols, size_t symbol_words);
+/* A tree is 16 words: its list words, then its report: 1 or 0 for the opening and for the closing span, whether fewer bytes hold
+ * it, and how many of its stored spans are so. A last span is 6: five, then 1 or 0. Two leaves are 32. */
 uint64_t tt_walk(const uint8_t *b, size_t len, uint32_t trees, const uint32_t *parts, size_t part_words, const uint32_t *symbols,
                  size_t symbol_words, size_t place, uint32_t number, uint32_t left, bool skip, size_t *next, size_t next_words,
                  uint32_t *words, size_t room);

@@ -27,7 +27,7 @@ use Rattle.decode.specs.Judge.{limitRules}
 use Rattle.checker.specs.Descent.{afterSizes}
 use Rattle.checker.specs.Glance.{readerOf}
 use Rattle.checker.proofs.Descent.{check-unsized, check-sized}
-use Rattle.walk.specs.Source.{treesSized, treeShape, treeReaderIn}
+use Rattle.walk.specs.Source.{treesSized, treeReaderIn, reportShape, reportReaderIn}
 use Rattle.walk.specs.Walk.{stepOf, walkOf, callOf}
 use Rattle.walk.specs.declared.walk.Walk.{Walk}
 use Rattle.walk.specs.declared.walk.Step.{Step}
@@ -110,9 +110,9 @@ module _ (k count : ℕ) (parts pair symbols : List ℕ) (s : Bool) (e : s ≡ s
           (check-sized rawShape (rawReader b k (limitRules (limitsOf N))) (simp sized)
           ∙ sym (raw-check b k (modeTables M) (limitRules (limitsOf N)) (mode-telling M) tables-silent (λ n u. ap (λ (y : tables.Limits). tables.rowEight y n u) (sym d))))
 
-      pub walk-on : (b : List ℕ) (w : Walk) (call : WalkCall) (r : Step) → stepOf r ≡ walkStep treeShape (treeReaderIn b k (modeOf N parts pair symbols)) call (walkOf w)
-          → stepOf r ≡ walkStep treeShape (treeReaderIn b k (apartMode count root parts pair symbols)) call (walkOf w)
-      walk-on b w call r q = q ∙ ap (λ (M : Mode). walkStep treeShape (treeReaderIn b k M) call (walkOf w)) apart-mode
+      pub walk-on : (b : List ℕ) (w : Walk) (call : WalkCall) (r : Step) → stepOf r ≡ walkStep reportShape (reportReaderIn b k (modeOf N parts pair symbols)) call (walkOf w)
+          → stepOf r ≡ walkStep reportShape (reportReaderIn b k (apartMode count root parts pair symbols)) call (walkOf w)
+      walk-on b w call r q = q ∙ ap (λ (M : Mode). walkStep reportShape (reportReaderIn b k M) call (walkOf w)) apart-mode
 
   -- ---- where row 1 speaks
 
@@ -125,8 +125,8 @@ module _ (k count : ℕ) (parts pair symbols : List ℕ) (s : Bool) (e : s ≡ s
     check-1 z q = q ∙ ap verdictAnswer (check-unsized wordShape (reader b k (modeTables (apartMode count root parts pair symbols))) speaks)
 
     pub walk-1 : (w : Walk) (call : WalkCall) (r : Step) → stepOf r ≡ (format.refused 1 0, walkOf w)
-        → stepOf r ≡ walkStep treeShape (treeReaderIn b k (apartMode count root parts pair symbols)) call (walkOf w)
-    unfolding walkStep treeReaderIn
+        → stepOf r ≡ walkStep reportShape (reportReaderIn b k (apartMode count root parts pair symbols)) call (walkOf w)
+    unfolding walkStep reportReaderIn treeReaderIn
     walk-1 w call r q = q ∙ simp speaks
 
 -- demand 3 over such a buffer, by list words

@@ -1,5 +1,6 @@
-// A table mode beside document 01's, read by the same core: a stated number of parts in a run that may be longer, and the
-// root's two parts in a run of their own under an index of their own. It shows that a mode costs fronts and no copies.
+// A table mode beside document 01's, read by the same core: a stated number of parts in a run that may be longer, and
+// the root's two parts in a run of their own under an index of their own. It shows that a mode costs fronts and no
+// copies.
 use checker::check::check_in;
 use checker::check::refused;
 use checker::glance::Sizes;
@@ -18,7 +19,7 @@ ghost use Rattle.format.specs.Buffer.{wordShape, reader};
 ghost use Rattle.format.specs.Walk.{walkStep};
 ghost use Rattle.tree.specs.Mode.{limitsOf};
 ghost use Rattle.tree.specs.Refusal.{verdictAnswer};
-ghost use Rattle.walk.specs.Source.{treeShape, treeReaderIn};
+ghost use Rattle.walk.specs.Source.{reportShape, reportReaderIn};
 ghost use Rattle.walk.specs.Walk.{stepOf, walkOf, callOf};
 ghost use Rattle.apart.specs.Apart.{apartMode, sizedApart, sizesApart};
 
@@ -105,8 +106,9 @@ pub fn walk_apart(
     skip: bool,
 ) -> Step
     ensures { λ r. ⌜
-        stepOf r ≡ walkStep treeShape (treeReaderIn (now (b .entry)) trees
-        (apartMode count root (now (parts .entry)) (now (pair .entry)) (now (symbols .entry)))) (callOf skip) (walkOf walk)
+        stepOf r ≡ walkStep reportShape (reportReaderIn (now (b .entry)) trees
+        (apartMode count root (now (parts .entry)) (now (pair .entry)) (now (symbols .entry))))
+        (callOf skip) (walkOf walk)
         ⌝ }
 {
     if !sized(trees, count, parts, pair, symbols) {

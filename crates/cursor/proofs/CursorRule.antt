@@ -14,11 +14,14 @@ use Rattle.format.specs.Plain.{plainCursorRun, freshState}
 use Rattle.format.specs.Check.{listing}
 use Rattle.format.specs.Buffer.{wordShape, ownReader, bufferCheck}
 use Rattle.format.proofs.Own.{own-walk-rule}
+use Rattle.format.proofs.OwnReported.{own-reported-rule}
+use Rattle.format.proofs.Reported.{cursor-reported}
 use Rattle.tree.specs.declared.types.TokenTree.{TokenTree}
-use Rattle.walk.specs.Source.{answerWords}
+use Rattle.format.specs.Loose.{Loose, looseAt, reportedShape, reported}
+use Rattle.walk.specs.Source.{answerWords, answerReport}
 use Rattle.cursor.specs.Open.{opened}
 use Rattle.cursor.specs.Moves.{freshCursor, written, Arrays}
-use Rattle.cursor.specs.Run.{Held, held, heldAs, MovedOn, Handed, Ran, inWords}
+use Rattle.cursor.specs.Run.{Held, held, heldAs, MovedOn, Handed, Ran, inWords, inReport}
 
 -- a call writes no array longer or shorter
 written-length : (f : Open → ℕ) (a : List ℕ) (d : ℕ) (os : List Open) → length (written f a d os) ≡ length a
@@ -47,7 +50,7 @@ module _ (b : List ℕ) (k : ℕ) (parts symbols : List ℕ) where
       go true false f g = (simp (f, g), simp (f, g))
       go true true f g = (simp (f, g), simp (f, g))
 
-  moved-on : (call : CursorCall) (h : Held) (a : Answer TokenTree) (h′ : Held) → Full h → MovedOn b k parts symbols call h a h′
+  moved-on : (call : CursorCall) (h : Held) (a : Answer (TokenTree × Loose)) (h′ : Held) → Full h → MovedOn b k parts symbols call h a h′
       → (inWords (a, h′) ≡ cursorStep wordShape O call (heldAs h)) × Full h′
   moved-on call h a h′ full m =
       let w : answerWords a ≡ cursorStep wordShape O call (heldAs h) .0 = ap answerWords (m .said) ∙ m .moves .words in
@@ -61,7 +64,7 @@ module _ (b : List ℕ) (k : ℕ) (parts symbols : List ℕ) where
       )
 
   -- one call over every buffer, any cursor
-  pub handed-is : (call : CursorCall) (h : Held) (a : Answer TokenTree) (h′ : Held) → Full h → Handed b k parts symbols call h a h′
+  pub handed-is : (call : CursorCall) (h : Held) (a : Answer (TokenTree × Loose)) (h′ : Held) → Full h → Handed b k parts symbols call h a h′
       → (inWords (a, h′) ≡ cursorStep wordShape O call (heldAs h)) × Full h′
   handed-is bump h a h′ full m = moved-on bump h a h′ full m
   handed-is end h a h′ full m = moved-on end h a h′ full m
@@ -75,8 +78,28 @@ module _ (b : List ℕ) (k : ℕ) (parts symbols : List ℕ) where
       let n : heldAs h′ ≡ cursorStep wordShape O peekTwoLeaves (heldAs h) .1 = ap heldAs (m .stays) ∙ sym (looking (heldAs h) .1) in
       ((λ i. (w i, n i)), subst Full (sym (m .stays)) full)
 
+  -- reports change no cursor
+  same-next : (call : CursorCall) (c : calls.Cursor) → cursorStep wordShape O call c .1 ≡ cursorStep (reportedShape wordShape) (reported (looseAt b) O) call c .1
+  same-next call c = sym (ap (λ x. x .1) (cursor-reported wordShape (looseAt b) O call c))
+
+  -- the same call's answer with reports
+  reports : (call : CursorCall) (h : Held) (a : Answer (TokenTree × Loose)) (h′ : Held) → Handed b k parts symbols call h a h′
+      → answerReport a ≡ cursorStep (reportedShape wordShape) (reported (looseAt b) O) call (heldAs h) .0
+  reports bump h a h′ m = ap answerReport (m .said) ∙ m .moves .reports
+  reports end h a h′ m = ap answerReport (m .said) ∙ m .moves .reports
+  reports bumpOrEnd h a h′ m = ap answerReport (m .said) ∙ m .moves .reports
+  reports tokenTree h a h′ m = ap answerReport (m .said) ∙ m .tells .reports
+  reports peekTwoLeaves h a h′ m = ap answerReport (m .said) ∙ m .peeks .reports
+
+  handed-reported : (call : CursorCall) (h : Held) (a : Answer (TokenTree × Loose)) (h′ : Held) → Full h → Handed b k parts symbols call h a h′
+      → inReport (a, h′) ≡ cursorStep (reportedShape wordShape) (reported (looseAt b) O) call (heldAs h)
+  handed-reported call h a h′ full m =
+      let n : heldAs h′ ≡ cursorStep (reportedShape wordShape) (reported (looseAt b) O) call (heldAs h) .1
+      = ap (λ x. x .1) (handed-is call h a h′ full m .0) ∙ same-next call (heldAs h) in
+      λ i. (reports call h a h′ m i, n i)
+
   -- a list of calls over every buffer, any cursor
-  pub ran-is : (cs : List CursorCall) (h : Held) (rs : List (Answer TokenTree × Held)) → Full h → Ran b k parts symbols cs h rs
+  pub ran-is : (cs : List CursorCall) (h : Held) (rs : List (Answer (TokenTree × Loose) × Held)) → Full h → Ran b k parts symbols cs h rs
       → map inWords rs ≡ cursorRun wordShape O cs (heldAs h)
   unfolding Ran cursorRun
   ran-is [] h [] full r = refl
@@ -87,17 +110,39 @@ module _ (b : List ℕ) (k : ℕ) (parts symbols : List ℕ) where
       ap (λ y. inWords x ∷ y) (ran-is cs (x .1) xs (q .1) (r .1))
       ∙ ap (λ (y : Answer (List ℕ) × calls.Cursor). y ∷ cursorRun wordShape O cs (y .1)) (q .0)
 
+  -- … and with reports
+  pub ran-reported : (cs : List CursorCall) (h : Held) (rs : List (Answer (TokenTree × Loose) × Held)) → Full h → Ran b k parts symbols cs h rs
+      → map inReport rs ≡ cursorRun (reportedShape wordShape) (reported (looseAt b) O) cs (heldAs h)
+  unfolding Ran cursorRun
+  ran-reported [] h [] full r = refl
+  ran-reported [] h (x ∷ xs) full r = absurd r
+  ran-reported (c ∷ cs) h [] full r = absurd r
+  ran-reported (c ∷ cs) h (x ∷ xs) full r =
+      ap (λ y. inReport x ∷ y) (ran-reported cs (x .1) xs (handed-is c h (x .0) (x .1) full (r .0) .1) (r .1))
+      ∙ ap (λ (y : Answer (List ℕ × Loose) × calls.Cursor). y ∷ cursorRun (reportedShape wordShape) (reported (looseAt b) O) cs (y .1)) (handed-reported c h (x .0) (x .1) full (r .0))
+
   module _ (ok : bufferCheck b k parts symbols ≡ passed) where
     -- from any fresh cursor, whatever its arrays hold
-    pub cursor-rule : (h : Held) → Full h → heldAs h ≡ calls.freshCursor → (cs : List CursorCall) (rs : List (Answer TokenTree × Held)) → Ran b k parts symbols cs h rs
+    pub cursor-rule : (h : Held) → Full h → heldAs h ≡ calls.freshCursor → (cs : List CursorCall) (rs : List (Answer (TokenTree × Loose) × Held)) → Ran b k parts symbols cs h rs
         → map inWords rs ≡ plainCursorRun wordShape (listing wordShape O) cs freshState
     cursor-rule h full e cs rs r = ran-is cs h rs full r ∙ ap (cursorRun wordShape O cs) e ∙ own-walk-rule b k parts symbols ok .cursors cs
 
+    -- with the report on each tree
+    pub report-rule : (h : Held) → Full h → heldAs h ≡ calls.freshCursor → (cs : List CursorCall) (rs : List (Answer (TokenTree × Loose) × Held)) → Ran b k parts symbols cs h rs
+        → map inReport rs ≡ plainCursorRun (reportedShape wordShape) (listing (reportedShape wordShape) (reported (looseAt b) O)) cs freshState
+    report-rule h full e cs rs r =
+        ran-reported cs h rs full r ∙ ap (cursorRun (reportedShape wordShape) (reported (looseAt b) O) cs) e ∙ own-reported-rule b k parts symbols ok .cursors cs
+
+    fresh-full : Full (held freshCursor)
+    fresh-full = record { numbers = length-replicate {A = ℕ} 256 0; counts = length-replicate {A = ℕ} 256 0; places = length-replicate {A = ℕ} 256 0 }
+
     -- from the cursor of `fresh`
-    pub fresh-rule : (cs : List CursorCall) (rs : List (Answer TokenTree × Held)) → Ran b k parts symbols cs (held freshCursor) rs
+    pub fresh-rule : (cs : List CursorCall) (rs : List (Answer (TokenTree × Loose) × Held)) → Ran b k parts symbols cs (held freshCursor) rs
         → map inWords rs ≡ plainCursorRun wordShape (listing wordShape O) cs freshState
     unfolding opened
-    fresh-rule =
-        cursor-rule (held freshCursor)
-        (record { numbers = length-replicate {A = ℕ} 256 0; counts = length-replicate {A = ℕ} 256 0; places = length-replicate {A = ℕ} 256 0 })
-        refl
+    fresh-rule = cursor-rule (held freshCursor) fresh-full refl
+
+    pub fresh-report-rule : (cs : List CursorCall) (rs : List (Answer (TokenTree × Loose) × Held)) → Ran b k parts symbols cs (held freshCursor) rs
+        → map inReport rs ≡ plainCursorRun (reportedShape wordShape) (listing (reportedShape wordShape) (reported (looseAt b) O)) cs freshState
+    unfolding opened
+    fresh-report-rule = report-rule (held freshCursor) fresh-full refl

@@ -18,7 +18,8 @@ use Rattle.format.specs.Buffer.{wordShape, reader, ownReader}
 use Rattle.tree.specs.Mode.{limitsOf, modeOf}
 use Rattle.tree.specs.declared.limits.Limits.{Limits}
 use Rattle.tree.proofs.OwnMode.{pairOf}
-use Rattle.walk.specs.Source.{sizes}
+use Rattle.format.specs.Loose.{looseAt, reportedShape, reported}
+use Rattle.walk.specs.Source.{sizes, reportReaderIn}
 use Rattle.walk.proofs.SizesReturns.{sizes-trees, sizes-whole, sizes-mode}
 use Rattle.cursor.specs.Open.{opened, cursorOf}
 use Rattle.cursor.specs.Plan.{answerOf, changed, May, Planned}
@@ -31,7 +32,7 @@ use Rattle.cursor.specs.declared.plan.Change.the-variants as changes
 use Rattle.cursor.specs.declared.plan.Opening.{Opening}
 use Rattle.cursor.specs.declared.cursor.Cursor.{Cursor}
 use Rattle.cursor.proofs.OpenReturns.{opened-length}
-use Rattle.cursor.proofs.CursorWords.{callWords, cursor-words}
+use Rattle.cursor.proofs.CursorWords.{callWords, callReport, cursor-words, cursor-report}
 use Rattle.cursor.proofs.PlanReturns.{sizes-stop}
 
 -- ---- a change carried out
@@ -157,6 +158,9 @@ module _ (b : List ℕ) (M : Mode) (k : ℕ) (call : CursorCall) (c : At) (ns cs
   moves-words : callWords (answerOf answer, changed (m .change) (cursorOf c ns cs ps)) ≡ cursorStep wordShape (reader b k (modeTables M)) call (cursorOf c ns cs ps)
   moves-words = ap callWords (m .planned .step) ∙ cursor-words b k M call (cursorOf c ns cs ps)
 
+  moves-report : callReport (answerOf answer, changed (m .change) (cursorOf c ns cs ps)) ≡ cursorStep (reportedShape wordShape) (reported (looseAt b) (reader b k (modeTables M))) call (cursorOf c ns cs ps)
+  moves-report = ap callReport (m .planned .step) ∙ cursor-report b k M call (cursorOf c ns cs ps)
+
   then-is : changed (m .change) (cursorOf c ns cs ps) ≡ then
   then-is = ap (λ x. x .1) moves-words
 
@@ -187,12 +191,13 @@ module _ (b : List ℕ) (M : Mode) (k : ℕ) (call : CursorCall) (c : At) (ns cs
 
 module _ (b parts symbols : List ℕ) (k : ℕ) (call : CursorCall) (c : At) (ns cs ps : List ℕ) (answer : Answer) (c′ : At) (ns′ cs′ ps′ : List ℕ) where
   moves : MovesIn b k (ownMode parts symbols) call c ns cs ps answer c′ ns′ cs′ ps′ → Moves b k parts symbols call c ns cs ps answer c′ ns′ cs′ ps′
-  unfolding ownReader
+  unfolding reportReaderIn ownReader
   moves m =
       let M : Mode = ownMode parts symbols in
       record {
         exact = ap (λ x. x .0) (m .planned .step);
         words = ap (λ x. x .0) (moves-words b M k call c ns cs ps answer c′ ns′ cs′ ps′ m);
+        reports = ap (λ x. x .0) (moves-report b M k call c ns cs ps answer c′ ns′ cs′ ps′ m);
         state = moves-state b M k call c ns cs ps answer c′ ns′ cs′ ps′ m;
         numbers = moves-numbers b M k call c ns cs ps answer c′ ns′ cs′ ps′ m;
         counts = moves-counts b M k call c ns cs ps answer c′ ns′ cs′ ps′ m;

@@ -10,10 +10,13 @@ use lib.ListN.{length, getD, drop}
 use Rattle.format.specs.Reader.{Reader, Reply, got, bad, refused}
 use Rattle.format.specs.Cursor.{Open, Cursor, CursorCall, bump, end, bumpOrEnd, closing, cursorFits, bumped, goOn, shut, shutLast, dropLast, cursorCall, cursorStep, nestedIn}
 use Rattle.format.specs.Tree.{treeAt}
-use Rattle.format.specs.Tables.{Mode, entryAt}
+use Rattle.format.specs.Tables.{Mode, entryAt, ownMode}
+use Rattle.format.specs.Loose.{Loose, looseAt, beside}
 use Rattle.format.specs.Buffer.{judge}
 use Rattle.format.proofs.Each.{and-left, and-right, true-false}
 use Rattle.pack.specs.Answer.{spanOf}
+use Rattle.tree.specs.Loose.{looseOf}
+use Rattle.tree.specs.declared.loose.Loose as looses
 use Rattle.tree.specs.Raw.{rawOf, rawAnswer}
 use Rattle.tree.specs.Types.{punctWith, identWith, literalWith, subtreeWith, resolved}
 use Rattle.tree.specs.declared.raw.RawPunct.{RawPunct}
@@ -37,7 +40,7 @@ use Rattle.decode.specs.declared.decode.TreeAt.{TreeAt}
 use Rattle.decode.specs.declared.decode.TreeRead.{TreeRead}
 use Rattle.decode.specs.declared.decode.TreeRead.the-variants as reads
 use Rattle.decode.proofs.DecodeUse.{decoded-got, decoded-refused, sized-got, sized-refused}
-use Rattle.walk.specs.Source.{treesSized, sizes, treeShape, treeReaderIn, treeReader}
+use Rattle.walk.specs.Source.{treesSized, sizes, treeShape, treeReaderIn, reportShape, reportReaderIn}
 use Rattle.walk.proofs.SizesReturns.{mode-sized}
 use Rattle.walk.proofs.WalkWords.{reads-decoded}
 use Rattle.walk.proofs.WalkReturns.{leaf-flat, subtree-holds}
@@ -100,7 +103,7 @@ module _ (M : Mode) (n : ℕ) (t : RawTree) where
 module _ (c : At) (y : RawAt) (r : Plan) where
   enter-flat : ((M : Mode) (n : ℕ) → treeShape .isSub (resolved M n (rawOf (y .tree))) ≡ false) → c .number + 1 < 4294967296 → r ≡ doing (changes.On (y .next)) → Enters c y r
   unfolding answerOf changed May
-  enter-flat d h q = record { step = λ R M n os f. let g = d M n in rw q (simp g); may = rw q h }
+  enter-flat d h q = record { step = λ R M n x os f. let g = d M n in rw q (simp g); may = rw q h }
 
   pub enter-punct : (p : RawPunct) → y .tree ≡ raws.Punct p → c .number + 1 < 4294967296 → r ≡ doing (changes.On (y .next)) → Enters c y r
   enter-punct p e h q = enter-flat (λ M n. flat-punct M n (y .tree) p e) h q
@@ -115,7 +118,7 @@ module _ (c : At) (y : RawAt) (r : Plan) where
     pub enter-deep : 256 ≤ c .depth → r ≡ refusal 4 (c .number) → Enters c y r
     enter-deep h q =
         record {
-          step = λ R M n os f.
+          step = λ R M n x os f.
               let g : leb 256 (length os) ≡ true = ap (leb 256) f ∙ le-leb _ _ h in
               refused-plan 4 (c .number) r (cursorAt c os) q ∙ simp (raw-holds M n (y .tree) p e, g);
           may = refused-may 4 (c .number) r c q;
@@ -125,7 +128,7 @@ module _ (c : At) (y : RawAt) (r : Plan) where
     unfolding answerOf changed May
     enter-open h i q =
         record {
-          step = λ R M n os f.
+          step = λ R M n x os f.
               let g : leb 256 (length os) ≡ false = ap (leb 256) f ∙ lt-leb _ _ h in
               rw q (simp (raw-holds M n (y .tree) p e, raw-counts M n (y .tree) p e, g));
           may = rw q (i, h);
@@ -137,7 +140,7 @@ pub ruleset enter-cases = (enter-punct, enter-ident, enter-literal, enter-deep, 
 
 module _ (b : List ℕ) (M : Mode) (k : ℕ) (c : At) (p : Plan) where
   pub go-end : k ≤ c .number → p ≡ doing changes.Stay → GoesOn b k M c p
-  unfolding answerOf changed May treeReaderIn
+  unfolding answerOf changed May reportReaderIn treeReaderIn
   go-end h q = record { step = λ os f. rw q (simp (le-leb _ _ h)); may = rw q tt }
 
 module _ (b parts pair symbols : List ℕ) (N : Limits) (w : Whole N parts pair symbols) (k : ℕ) (c : At) (p : Plan) (h : c .number < k) (r : RawRead)
@@ -145,22 +148,22 @@ module _ (b parts pair symbols : List ℕ) (N : Limits) (w : Whole N parts pair 
   abbrev M : Mode
   M = modeOf N parts pair symbols
 
-  before : leb (treeReaderIn b k M .trees) (c .number) ≡ false
-  unfolding treeReaderIn
+  before : leb (reportReaderIn b k M .trees) (c .number) ≡ false
+  unfolding reportReaderIn treeReaderIn
   before = lt-leb _ _ h
 
-  goes : (z : Reply TokenTree) → readIn b M (c .number) (c .place) ≡ z → (os : List Open)
-      → goOn treeShape (treeReaderIn b k M) (cursorAt c os) ≡ bumped treeShape (treeReaderIn b k M) (cursorAt c os) z
+  goes : (z : Reply (TokenTree × Loose)) → beside (looseAt b (c .place)) (readIn b M (c .number) (c .place)) ≡ z → (os : List Open)
+      → goOn reportShape (reportReaderIn b k M) (cursorAt c os) ≡ bumped reportShape (reportReaderIn b k M) (cursorAt c os) z
   goes z e os =
       let g = before in
-      let d : treeReaderIn b k M .read (c .number) (c .place) ≡ z = reads-decoded b k M (c .number) (c .place) ∙ e in
+      let d : reportReaderIn b k M .read (c .number) (c .place) ≡ z = reads-decoded b k M (c .number) (c .place) ∙ e in
       simp (g, d)
 
   pub go-refused : (i : ℕ) → r ≡ rawReads.Bad i → p ≡ refusal i (c .number) → GoesOn b k M c p
   go-refused i g q =
       let d = sized-refused b N parts pair symbols w (c .number) (c .place) r f i g in
       record {
-        step = λ os e. refused-plan i (c .number) p (cursorAt c os) q ∙ sym (goes (bad i) d os);
+        step = λ os e. refused-plan i (c .number) p (cursorAt c os) q ∙ sym (goes (bad i) (ap (beside (looseAt b (c .place))) d) os);
         may = refused-may i (c .number) p c q;
       }
 
@@ -169,8 +172,8 @@ module _ (b parts pair symbols : List ℕ) (N : Limits) (w : Whole N parts pair 
       let d = sized-got b N parts pair symbols w (c .number) (c .place) r f y g in
       record {
         step = λ os e.
-            n .step (treeReaderIn b k M) M (c .number) os e
-            ∙ sym (goes (got (resolved M (c .number) (rawOf (y .tree))) (y .next) (y .children .0)) d os);
+            n .step (reportReaderIn b k M) M (c .number) (looseAt b (c .place)) os e
+            ∙ sym (goes (got (resolved M (c .number) (rawOf (y .tree)), looseAt b (c .place)) (y .next) (y .children .0)) (ap (beside (looseAt b (c .place))) d) os);
         may = n .may;
       }
 
@@ -178,14 +181,14 @@ pub ruleset go-cases = (go-end, go-refused, go-got)
 
 -- ---- the last open subtree
 
-module _ (y : TreeAt) (count : ℕ) where
-  pub shut-leaf : (l : Leaf) (r : Plan) → y .tree ≡ trees.Leaf l → r ≡ refusal 10 0 → Shuts y count r
+module _ (y : TreeAt) (o : looses.Loose) (count : ℕ) where
+  pub shut-leaf : (l : Leaf) (r : Plan) → y .tree ≡ trees.Leaf l → r ≡ refusal 10 0 → Shuts y (looseOf o) count r
   shut-leaf l r e q =
       let d : treeShape .isSub (y .tree) ≡ false = ap (treeShape .isSub) e ∙ leaf-flat l in
       record { step = λ R c o os f. refused-plan 10 0 r (cursorAt c (o ∷ os)) q ∙ simp d; may = λ c h. refused-may 10 0 r c q }
 
   module _ (p : Subtree) (e : y .tree ≡ trees.Subtree p) where
-    pub shut-other : (p .len .0 ≡ count → ⊥) → (r : Plan) → r ≡ refusal 10 0 → Shuts y count r
+    pub shut-other : (p .len .0 ≡ count → ⊥) → (r : Plan) → r ≡ refusal 10 0 → Shuts y (looseOf o) count r
     shut-other h r q =
         record {
           step = λ R c o os f.
@@ -194,7 +197,7 @@ module _ (y : TreeAt) (count : ℕ) where
           may = λ c h. refused-may 10 0 r c q;
         }
 
-    pub shut-same : p .len .0 ≡ count → (t : TokenTree) → t ≡ trees.Subtree p → Shuts y count (record { answer = answers.Tree t; change = changes.Shut })
+    pub shut-same : p .len .0 ≡ count → (t : TokenTree) → t ≡ trees.Subtree p → Shuts y (looseOf o) count (record { answer = answers.Tree (record { tree = t; loose = o }); change = changes.Shut })
     unfolding answerOf changed May
     shut-same h t i =
         record {
@@ -206,35 +209,39 @@ module _ (y : TreeAt) (count : ℕ) where
 
 module _ (b : List ℕ) (M : Mode) (c : At) (ns cs ps : List ℕ) (h : 0 < c .depth) (p : Plan) (r : TreeRead)
     (f : r ≡ treeAnswer (readIn b M (getD ns (c .depth - 1) 0) (getD ps (c .depth - 1) 0))) where
+  abbrev report : Loose
+  report = looseAt b (getD ps (c .depth - 1) 0)
+
   abbrev lastOpen : Open
   lastOpen = record { number = getD ns (c .depth - 1) 0; count = getD cs (c .depth - 1) 0; place = getD ps (c .depth - 1) 0 }
 
-  lasts : (k : ℕ) (z : Reply TokenTree) → readIn b M (getD ns (c .depth - 1) 0) (getD ps (c .depth - 1) 0) ≡ z
-      → shutLast treeShape (treeReaderIn b k M) (cursorOf c ns cs ps) (opened ns cs ps (c .depth))
-      ≡ shut treeShape (treeReaderIn b k M) (cursorOf c ns cs ps) lastOpen (opened ns cs ps (c .depth - 1)) z
+  lasts : (k : ℕ) (z : Reply (TokenTree × Loose)) → beside report (readIn b M (getD ns (c .depth - 1) 0) (getD ps (c .depth - 1) 0)) ≡ z
+      → shutLast reportShape (reportReaderIn b k M) (cursorOf c ns cs ps) (opened ns cs ps (c .depth))
+      ≡ shut reportShape (reportReaderIn b k M) (cursorOf c ns cs ps) lastOpen (opened ns cs ps (c .depth - 1)) z
   lasts k z e =
-      let d : treeReaderIn b k M .read (getD ns (c .depth - 1) 0) (getD ps (c .depth - 1) 0) ≡ z
+      let d : reportReaderIn b k M .read (getD ns (c .depth - 1) 0) (getD ps (c .depth - 1) 0) ≡ z
       = reads-decoded b k M (getD ns (c .depth - 1) 0) (getD ps (c .depth - 1) 0) ∙ e in
-      ap (shutLast treeShape (treeReaderIn b k M) (cursorOf c ns cs ps)) (opened-last ns cs ps (c .depth) h)
-      ∙ ap (shut treeShape (treeReaderIn b k M) (cursorOf c ns cs ps) lastOpen (opened ns cs ps (c .depth - 1))) d
+      ap (shutLast reportShape (reportReaderIn b k M) (cursorOf c ns cs ps)) (opened-last ns cs ps (c .depth) h)
+      ∙ ap (shut reportShape (reportReaderIn b k M) (cursorOf c ns cs ps) lastOpen (opened ns cs ps (c .depth - 1))) d
 
   pub last-refused : (i : ℕ) → r ≡ reads.Refused i → p ≡ refusal i (getD ns (c .depth - 1) 0) → ShutsLast b M c ns cs ps p
   last-refused i g q =
       let d = decoded-refused (readIn b M (getD ns (c .depth - 1) 0) (getD ps (c .depth - 1) 0)) r f i g in
       record {
-        step = λ k. refused-plan i (getD ns (c .depth - 1) 0) p (cursorOf c ns cs ps) q ∙ sym (lasts k (bad i) d);
+        step = λ k. refused-plan i (getD ns (c .depth - 1) 0) p (cursorOf c ns cs ps) q ∙ sym (lasts k (bad i) (ap (beside report) d));
         may = refused-may i (getD ns (c .depth - 1) 0) p c q;
       }
 
-  pub last-got : (y : TreeAt) → r ≡ reads.Got y → Shuts y (getD cs (c .depth - 1) 0) p → ShutsLast b M c ns cs ps p
-  last-got y g n =
-      let d = decoded-got (readIn b M (getD ns (c .depth - 1) 0) (getD ps (c .depth - 1) 0)) r f y g in
+  pub last-got : (y : TreeAt) → r ≡ reads.Got y → (x : Loose) → x ≡ report → Shuts y x (getD cs (c .depth - 1) 0) p → ShutsLast b M c ns cs ps p
+  last-got y g x i m =
+      let n : Shuts y report (getD cs (c .depth - 1) 0) p = subst (λ (u : Loose). Shuts y u (getD cs (c .depth - 1) 0) p) i m in
+      let d = ap (beside report) (decoded-got (readIn b M (getD ns (c .depth - 1) 0) (getD ps (c .depth - 1) 0)) r f y g) in
       let o = opened-last ns cs ps (c .depth) h in
       record {
         step = λ k.
-            subst (λ (os : List Open). planOf p (cursorAt c os) ≡ shut treeShape (treeReaderIn b k M) (cursorAt c os) lastOpen (opened ns cs ps (c .depth - 1)) (got (y .tree) (y .next) (y .children .0)))
-            (sym o) (n .step (treeReaderIn b k M) c lastOpen (opened ns cs ps (c .depth - 1)) refl)
-            ∙ sym (lasts k (got (y .tree) (y .next) (y .children .0)) d);
+            subst (λ (os : List Open). planOf p (cursorAt c os) ≡ shut reportShape (reportReaderIn b k M) (cursorAt c os) lastOpen (opened ns cs ps (c .depth - 1)) (got (y .tree, report) (y .next) (y .children .0)))
+            (sym o) (n .step (reportReaderIn b k M) c lastOpen (opened ns cs ps (c .depth - 1)) refl)
+            ∙ sym (lasts k (got (y .tree, report) (y .next) (y .children .0)) d);
         may = n .may c h;
       }
 
@@ -242,12 +249,12 @@ pub ruleset shut-cases = (shut-leaf, shut-other, shut-same, last-refused, last-g
 
 -- ---- row 10, and the calls
 
-module _ (R : Reader TokenTree) (s : R .sized ≡ true) (c : Cursor) (call : CursorCall) where
-  pub fit-stops : cursorFits treeShape R c ≡ false → (refused 10 0, c) ≡ cursorStep treeShape R call c
+module _ (R : Reader (TokenTree × Loose)) (s : R .sized ≡ true) (c : Cursor) (call : CursorCall) where
+  pub fit-stops : cursorFits reportShape R c ≡ false → (refused 10 0, c) ≡ cursorStep reportShape R call c
   unfolding cursorStep
   fit-stops f = simp (s, f)
 
-  pub fit-calls : cursorFits treeShape R c ≡ true → cursorStep treeShape R call c ≡ cursorCall treeShape R call c
+  pub fit-calls : cursorFits reportShape R c ≡ true → cursorStep reportShape R call c ≡ cursorCall reportShape R call c
   unfolding cursorStep
   fit-calls f = simp (s, f)
 
@@ -263,11 +270,11 @@ module _ (k bytes : ℕ) (c : At) (ns cs ps : List ℕ) (x : Bool) (e : x ≡ ag
 
 -- row 1 of document 01's tables
 pub sizes-stop : (b : List ℕ) (k : ℕ) (parts symbols : List ℕ) (s : Bool) → s ≡ sizes k parts symbols → not s ≡ true → (call : CursorCall) (c : Cursor)
-    → (refused 1 0, c) ≡ cursorStep treeShape (treeReader b k parts symbols) call c
-unfolding cursorStep treeReaderIn
+    → (refused 1 0, c) ≡ cursorStep reportShape (reportReaderIn b k (ownMode parts symbols)) call c
+unfolding cursorStep reportReaderIn treeReaderIn
 sizes-stop b k parts symbols s e h call c = let f : sizes k parts symbols ≡ false = sym e ∙ not-true s h in simp f
 
-drop-last : (R : Reader TokenTree) (os : List Open) → drop 1 os ≡ dropLast treeShape R os
+drop-last : (R : Reader (TokenTree × Loose)) (os : List Open) → drop 1 os ≡ dropLast reportShape R os
 drop-last R [] = refl
 drop-last R (o ∷ os) = refl
 
@@ -293,11 +300,11 @@ module _ (b parts pair symbols : List ℕ) (N : Limits) (k : ℕ) (s : treesSize
   abbrev own : Mode
   own = modeOf N parts pair symbols
 
-  abbrev R : Reader TokenTree
-  R = treeReaderIn b k own
+  abbrev R : Reader (TokenTree × Loose)
+  R = reportReaderIn b k own
 
   pub plan-10 : not z ≡ true → (call : CursorCall) (p : Plan) → p ≡ refusal 10 0 → Planned b k own call c ns cs ps p
-  unfolding treeReaderIn
+  unfolding reportReaderIn treeReaderIn
   plan-10 h call p q =
       record {
         step = refused-plan 10 0 p (cursorOf c ns cs ps) q ∙ fit-stops R (mode-sized b k N parts pair symbols s) (cursorOf c ns cs ps) call (sym e ∙ not-true z h);
@@ -305,20 +312,20 @@ module _ (b parts pair symbols : List ℕ) (N : Limits) (k : ℕ) (s : treesSize
       }
 
   module _ (h : not z ≡ false) where
-    called : (call : CursorCall) → cursorStep treeShape R call (cursorOf c ns cs ps) ≡ cursorCall treeShape R call (cursorOf c ns cs ps)
-    unfolding treeReaderIn
+    called : (call : CursorCall) → cursorStep reportShape R call (cursorOf c ns cs ps) ≡ cursorCall reportShape R call (cursorOf c ns cs ps)
+    unfolding reportReaderIn treeReaderIn
     called call = fit-calls R (mode-sized b k N parts pair symbols s) (cursorOf c ns cs ps) call (sym e ∙ not-false z h)
 
     module _ (x : Bool) (f : x ≡ closes (c .number) ns cs (c .depth)) where
       is-closing : closing (c .number) (opened ns cs ps (c .depth)) ≡ x
       is-closing = closing-closes (c .number) ns cs ps (c .depth) ∙ sym f
 
-      refused-10 : (call : CursorCall) (p : Plan) → p ≡ refusal 10 0 → cursorCall treeShape R call (cursorOf c ns cs ps) ≡ (refused 10 0, cursorOf c ns cs ps)
+      refused-10 : (call : CursorCall) (p : Plan) → p ≡ refusal 10 0 → cursorCall reportShape R call (cursorOf c ns cs ps) ≡ (refused 10 0, cursorOf c ns cs ps)
           → Planned b k own call c ns cs ps p
       refused-10 call p q z = record { step = refused-plan 10 0 p (cursorOf c ns cs ps) q ∙ sym (called call ∙ z); may = refused-may 10 0 p c q }
 
       goes-on : (call : CursorCall) (p : Plan) → GoesOn b k own c p
-          → cursorCall treeShape R call (cursorOf c ns cs ps) ≡ goOn treeShape R (cursorOf c ns cs ps)
+          → cursorCall reportShape R call (cursorOf c ns cs ps) ≡ goOn reportShape R (cursorOf c ns cs ps)
           → Planned b k own call c ns cs ps p
       goes-on call p n z = record { step = n .step (opened ns cs ps (c .depth)) (opened-length ns cs ps (c .depth)) ∙ sym (called call ∙ z); may = n .may }
 
@@ -336,7 +343,7 @@ module _ (b parts pair symbols : List ℕ) (N : Limits) (k : ℕ) (s : treesSize
       either-shut g p q =
           let z = is-closing ∙ g in
           let d = drop-last R (opened ns cs ps (c .depth)) in
-          let w : planOf p (cursorOf c ns cs ps) ≡ cursorCall treeShape R bumpOrEnd (cursorOf c ns cs ps) = rw q (simp (z, d)) in
+          let w : planOf p (cursorOf c ns cs ps) ≡ cursorCall reportShape R bumpOrEnd (cursorOf c ns cs ps) = rw q (simp (z, d)) in
           record { step = w ∙ sym (called bumpOrEnd); may = rw q (closes-some c ns cs x f g) }
 
       pub end-open : not x ≡ true → (p : Plan) → p ≡ refusal 10 0 → Planned b k own end c ns cs ps p
@@ -345,7 +352,7 @@ module _ (b parts pair symbols : List ℕ) (N : Limits) (k : ℕ) (s : treesSize
       pub end-shut : not x ≡ false → (p : Plan) → ShutsLast b own c ns cs ps p → Planned b k own end c ns cs ps p
       end-shut g p n =
           let z = is-closing ∙ not-false x g in
-          let w : cursorCall treeShape R end (cursorOf c ns cs ps) ≡ shutLast treeShape R (cursorOf c ns cs ps) (opened ns cs ps (c .depth)) = simp z in
+          let w : cursorCall reportShape R end (cursorOf c ns cs ps) ≡ shutLast reportShape R (cursorOf c ns cs ps) (opened ns cs ps (c .depth)) = simp z in
           record { step = n .step k ∙ sym (called end ∙ w); may = n .may }
 
 pub ruleset plan-cases = (plan-10, plan-few, bump-closing, bump-on, either-on, either-shut, end-open, end-some, end-shut)

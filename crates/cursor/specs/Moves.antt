@@ -9,7 +9,8 @@ use Rattle.format.specs.Cursor as calls
 use Rattle.format.specs.Cursor.{Open, CursorCall, cursorStep}
 use Rattle.format.specs.Tables.{Mode}
 use Rattle.format.specs.Buffer.{wordShape, ownReader}
-use Rattle.walk.specs.Source.{treeShape, treeReader, answerWords}
+use Rattle.format.specs.Loose.{looseAt, reportedShape, reported}
+use Rattle.walk.specs.Source.{treeReader, reportShape, answerWords, answerReport}
 use Rattle.cursor.specs.Open.{cursorOf}
 use Rattle.cursor.specs.Plan.{answerOf, Planned}
 use Rattle.cursor.specs.declared.state.At.{At}
@@ -49,11 +50,13 @@ pub record Arrays (ns cs ps : List ℕ) : Type 0 where
   pub counts : length cs ≡ 256
   pub places : length ps ≡ 256
 
--- the answer: the one tree that the tables give, and by list words what the definitions' reader reads; the next state and all of the arrays
+-- the answer: the one tree that the tables give, with its report; by list words what the definitions' reader reads, without and with reports; the next state
+-- and all of the arrays
 pub record Moves (b : List ℕ) (k : ℕ) (parts symbols : List ℕ) (call : CursorCall) (c : At) (ns cs ps : List ℕ)
     (answer : Answer) (c′ : At) (ns′ cs′ ps′ : List ℕ) : Type 0 where
-  pub exact : answerOf answer ≡ cursorStep treeShape (treeReader b k parts symbols) call (cursorOf c ns cs ps) .0
+  pub exact : answerOf answer ≡ cursorStep reportShape (reported (looseAt b) (treeReader b k parts symbols)) call (cursorOf c ns cs ps) .0
   pub words : answerWords (answerOf answer) ≡ cursorStep wordShape (ownReader b k parts symbols) call (cursorOf c ns cs ps) .0
+  pub reports : answerReport (answerOf answer) ≡ cursorStep (reportedShape wordShape) (reported (looseAt b) (ownReader b k parts symbols)) call (cursorOf c ns cs ps) .0
   pub state : c′ ≡ stateOf (cursorStep wordShape (ownReader b k parts symbols) call (cursorOf c ns cs ps) .1)
   pub numbers : ns′ ≡ written (λ o. o .number) ns (c .depth) (cursorStep wordShape (ownReader b k parts symbols) call (cursorOf c ns cs ps) .1 .opened)
   pub counts : cs′ ≡ written (λ o. o .count) cs (c .depth) (cursorStep wordShape (ownReader b k parts symbols) call (cursorOf c ns cs ps) .1 .opened)

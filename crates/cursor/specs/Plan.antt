@@ -7,12 +7,14 @@ use Rattle.format.specs.Reader as format
 use Rattle.format.specs.Cursor as calls
 use Rattle.format.specs.Cursor.{Open, Cursor, CursorCall}
 use Rattle.format.specs.Tables.{Mode}
+use Rattle.format.specs.Loose.{Loose}
+use Rattle.tree.specs.Loose.{reportedOf}
 use Rattle.tree.specs.Raw.{rawOf}
 use Rattle.tree.specs.Types.{resolved}
 use Rattle.tree.specs.declared.raw.RawAt.{RawAt}
 use Rattle.tree.specs.declared.types.TokenTree.{TokenTree}
 use Rattle.decode.specs.declared.decode.TreeAt.{TreeAt}
-use Rattle.walk.specs.Source.{treeShape, treeReaderIn}
+use Rattle.walk.specs.Source.{reportShape, reportReaderIn}
 use Rattle.cursor.specs.Open.{opened, cursorOf}
 use Rattle.cursor.specs.declared.state.At.{At}
 use Rattle.cursor.specs.declared.plan.Answer.{Answer}
@@ -22,10 +24,10 @@ use Rattle.cursor.specs.declared.plan.Change.the-variants as changes
 use Rattle.cursor.specs.declared.plan.Plan.{Plan}
 
 -- "A refusal gives its number and a tree number"
-unfoldable pub answerOf : Answer → format.Answer TokenTree
+unfoldable pub answerOf : Answer → format.Answer (TokenTree × Loose)
 answerOf Done = format.done
 answerOf None = format.none
-answerOf (Tree t) = format.one t
+answerOf (Tree t) = format.one (reportedOf t)
 answerOf (Refused r) = format.refused (r .number) (r .tree)
 
 -- "tree n is opened if a subtree, and n grows by 1"; "Shutting keeps n and the place"
@@ -40,7 +42,7 @@ changed (changes.Open o) c =
     }
 changed changes.Shut c = record { number = c .number; place = c .place; opened = drop 1 (c .opened) }
 
-abbrev pub planOf : Plan → Cursor → format.Answer TokenTree × Cursor
+abbrev pub planOf : Plan → Cursor → format.Answer (TokenTree × Loose) × Cursor
 planOf p c = (answerOf (p .answer), changed (p .change) c)
 
 abbrev pub refusal : ℕ → ℕ → Plan
@@ -61,26 +63,26 @@ cursorAt c os = record { number = c .number; place = c .place; opened = os }
 
 -- ---- what the parts of a call promise, over the tables of a mode
 
--- whatever the tables hold
+-- whatever the tables hold and the report says
 pub record Enters (c : At) (y : RawAt) (r : Plan) : Type 0 where
-  pub step : (R : format.Reader TokenTree) (M : Mode) (n : ℕ) (os : List Open) → length os ≡ c .depth
-      → planOf r (cursorAt c os) ≡ calls.bumped treeShape R (cursorAt c os) (format.got (resolved M n (rawOf (y .tree))) (y .next) (y .children .0))
+  pub step : (R : format.Reader (TokenTree × Loose)) (M : Mode) (n : ℕ) (x : Loose) (os : List Open) → length os ≡ c .depth
+      → planOf r (cursorAt c os) ≡ calls.bumped reportShape R (cursorAt c os) (format.got (resolved M n (rawOf (y .tree)), x) (y .next) (y .children .0))
   pub may : May c (r .change)
 
 pub record GoesOn (b : List ℕ) (k : ℕ) (M : Mode) (c : At) (r : Plan) : Type 0 where
-  pub step : (os : List Open) → length os ≡ c .depth → planOf r (cursorAt c os) ≡ calls.goOn treeShape (treeReaderIn b k M) (cursorAt c os)
+  pub step : (os : List Open) → length os ≡ c .depth → planOf r (cursorAt c os) ≡ calls.goOn reportShape (reportReaderIn b k M) (cursorAt c os)
   pub may : May c (r .change)
 
-pub record Shuts (y : TreeAt) (count : ℕ) (r : Plan) : Type 0 where
-  pub step : (R : format.Reader TokenTree) (c : At) (o : Open) (os : List Open) → o .count ≡ count
-      → planOf r (cursorAt c (o ∷ os)) ≡ calls.shut treeShape R (cursorAt c (o ∷ os)) o os (format.got (y .tree) (y .next) (y .children .0))
+pub record Shuts (y : TreeAt) (x : Loose) (count : ℕ) (r : Plan) : Type 0 where
+  pub step : (R : format.Reader (TokenTree × Loose)) (c : At) (o : Open) (os : List Open) → o .count ≡ count
+      → planOf r (cursorAt c (o ∷ os)) ≡ calls.shut reportShape R (cursorAt c (o ∷ os)) o os (format.got (y .tree, x) (y .next) (y .children .0))
   pub may : (c : At) → 0 < c .depth → May c (r .change)
 
 pub record ShutsLast (b : List ℕ) (M : Mode) (c : At) (ns cs ps : List ℕ) (r : Plan) : Type 0 where
-  pub step : (k : ℕ) → planOf r (cursorOf c ns cs ps) ≡ calls.shutLast treeShape (treeReaderIn b k M) (cursorOf c ns cs ps) (opened ns cs ps (c .depth))
+  pub step : (k : ℕ) → planOf r (cursorOf c ns cs ps) ≡ calls.shutLast reportShape (reportReaderIn b k M) (cursorOf c ns cs ps) (opened ns cs ps (c .depth))
   pub may : May c (r .change)
 
 -- a call: its answer, and the cursor that its change makes
 pub record Planned (b : List ℕ) (k : ℕ) (M : Mode) (call : CursorCall) (c : At) (ns cs ps : List ℕ) (r : Plan) : Type 0 where
-  pub step : planOf r (cursorOf c ns cs ps) ≡ calls.cursorStep treeShape (treeReaderIn b k M) call (cursorOf c ns cs ps)
+  pub step : planOf r (cursorOf c ns cs ps) ≡ calls.cursorStep reportShape (reportReaderIn b k M) call (cursorOf c ns cs ps)
   pub may : May c (r .change)

@@ -5,8 +5,11 @@ use crate::plan::Answer;
 use crate::state::At;
 use decode::decode::TreeRead;
 use decode::decode::decode_in;
+use decode::loose::loose_at;
 use tree::limits::Limits;
 use tree::limits::own_limits;
+use tree::loose::Loose;
+use tree::loose::ReportedTree;
 use tree::refusal::Refusal;
 use tree::types::Leaf;
 use tree::types::Punct;
@@ -23,9 +26,10 @@ ghost use Rattle.walk.specs.Source.{treesSized};
 ghost use Rattle.cursor.specs.declared.plan.Answer.the-variants as answers;
 ghost use Rattle.cursor.specs.Look.{blankLeaf, noLeaves, Here, Second, First, Tells, TellsIn, Peeks, PeeksIn};
 
-// A leaf ahead of the cursor.
+// A leaf ahead of the cursor, and its report.
 pub struct Ahead {
     pub leaf: Leaf,
+    pub loose: Loose,
 }
 
 // The nearer leaf first. Where two were not found the leaves are blank, and `otherwise` says why.
@@ -62,7 +66,10 @@ fn tree_here(
         TreeRead::Refused(number) => refused(number, at.number),
         TreeRead::Got(here) => {
             let tree = here.tree;
-            Answer::Tree(tree)
+            Answer::Tree(ReportedTree {
+                tree: tree,
+                loose: loose_at(b, at.place),
+            })
         }
     }
 }
@@ -117,8 +124,11 @@ fn blank() -> Leaf
 fn no_leaves(otherwise: Answer) -> TwoLeaves
     ensures { λ r. ⌜ r ≡ noLeaves otherwise ⌝ }
 {
-    let leaf = blank();
-    let leaves = [Ahead { leaf: leaf }, Ahead { leaf: leaf }];
+    let nothing = Ahead {
+        leaf: blank(),
+        loose: Loose::None,
+    };
+    let leaves = [nothing, nothing];
     TwoLeaves {
         found: false,
         leaves: leaves,
@@ -135,7 +145,7 @@ fn second(
     symbols: &[u32],
     number: u32,
     place: usize,
-    near: Leaf,
+    near: Ahead,
 ) -> TwoLeaves
     requires { ⌜ Whole limits (now parts) (now pair) (now symbols) ⌝ }
     requires { ⌜ number + 1 < 4294967296 ⌝ }
@@ -147,10 +157,14 @@ fn second(
         TreeRead::Refused(refusal) => no_leaves(refused(refusal, number + 1)),
         TreeRead::Got(here) => {
             let tree = here.tree;
-            let TokenTree::Leaf(far) = tree else {
+            let TokenTree::Leaf(leaf) = tree else {
                 return no_leaves(Answer::None);
             };
-            let leaves = [Ahead { leaf: near }, Ahead { leaf: far }];
+            let far = Ahead {
+                leaf: leaf,
+                loose: loose_at(b, place),
+            };
+            let leaves = [near, far];
             TwoLeaves {
                 found: true,
                 leaves: leaves,
@@ -179,8 +193,12 @@ fn first(
         TreeRead::Refused(number) => no_leaves(refused(number, at.number)),
         TreeRead::Got(here) => {
             let tree = here.tree;
-            let TokenTree::Leaf(near) = tree else {
+            let TokenTree::Leaf(leaf) = tree else {
                 return no_leaves(Answer::None);
+            };
+            let near = Ahead {
+                leaf: leaf,
+                loose: loose_at(b, at.place),
             };
             second(b, limits, parts, pair, symbols, at.number, here.next, near)
         }

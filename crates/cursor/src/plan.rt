@@ -7,7 +7,10 @@ use decode::decode::TreeAt;
 use decode::decode::TreeRead;
 use decode::decode::decode_in;
 use decode::judge::tree_in;
+use decode::loose::loose_at;
 use tree::limits::Limits;
+use tree::loose::Loose;
+use tree::loose::ReportedTree;
 use tree::raw::Descendants;
 use tree::raw::RawAt;
 use tree::raw::RawRead;
@@ -18,6 +21,7 @@ ghost use mathlib.Core.Path.{_≡_};
 ghost use mathlib.Core.Bool.{true};
 ghost use Prim.Native.Nat.{_+_, _<_, _≤_};
 ghost use Rattle.format.specs.Cursor.{bump, end, bumpOrEnd};
+ghost use Rattle.tree.specs.Loose.{looseOf};
 ghost use Rattle.tree.specs.Mode.{modeOf, Whole};
 ghost use Rattle.walk.specs.Source.{treesSized};
 ghost use Rattle.cursor.specs.Plan.{refusal, doing, Enters, GoesOn, Shuts, ShutsLast, Planned};
@@ -26,7 +30,7 @@ pub enum Answer {
     // Nothing to hand back.
     Done,
     None,
-    Tree(TokenTree),
+    Tree(ReportedTree),
     Refused(Refusal),
 }
 
@@ -122,8 +126,8 @@ fn go_on(
 }
 
 // An open subtree that was read again: 10 if it is none with that count.
-fn shut(here: TreeAt, count: u32) -> Plan
-    ensures { λ r. ⌜ Shuts here count r ⌝ }
+fn shut(here: TreeAt, loose: Loose, count: u32) -> Plan
+    ensures { λ r. ⌜ Shuts here (looseOf loose) count r ⌝ }
 {
     let tree = here.tree;
     match tree {
@@ -133,8 +137,12 @@ fn shut(here: TreeAt, count: u32) -> Plan
             if len.0 != count {
                 return refuse(10, 0);
             }
+            let reported = ReportedTree {
+                tree: tree,
+                loose: loose,
+            };
             Plan {
-                answer: Answer::Tree(tree),
+                answer: Answer::Tree(reported),
                 change: Change::Shut,
             }
         }
@@ -161,10 +169,11 @@ fn shut_last<'a>(
 {
     let last = at.depth - 1;
     let number = numbers[last];
-    let read = decode_in(b, limits, parts, pair, symbols, number, places[last]);
+    let place = places[last];
+    let read = decode_in(b, limits, parts, pair, symbols, number, place);
     match read {
         TreeRead::Refused(refused) => refuse(refused, number),
-        TreeRead::Got(here) => shut(here, counts[last]),
+        TreeRead::Got(here) => shut(here, loose_at(b, place), counts[last]),
     }
 }
 

@@ -8,7 +8,9 @@ use borrow.Author.Tests.{ltb-true, leb-true, eqb-true, eq-eqb, ne-eqb, not-true,
 use lib.Dec.{ltb, leb, eqb}
 use lib.ListN.{length, getD}
 use Rattle.format.specs.Test.{if_then_else_}
-use Rattle.format.specs.Reader.{got}
+use Rattle.format.specs.Reader.{Reply, got, bad}
+use Rattle.format.specs.Loose as format
+use Rattle.format.specs.Loose.{beside}
 use Rattle.format.specs.Tree.{Raw, treeAt, isRawKind}
 use Rattle.format.specs.Fields.{spanFits, isScalar, fields}
 use Rattle.format.specs.Width.{partSize}
@@ -21,7 +23,9 @@ use Rattle.pack.specs.declared.span.PackedSpan.{PackedSpan}
 use Rattle.tree.specs.Raw.{rawOf, punctRaw, identRaw, literalRaw, subtreeRaw, rawAnswer, inRange}
 use Rattle.tree.specs.Types.{spacingOf, isRawOf, delimiterOf, litKindOf, spanWith, punctWith, identWith, literalWith, subtreeWith, resolved}
 use Rattle.decode.specs.Judge.{rowFrom, rowOf}
-use Rattle.decode.specs.Decode.{treeAnswer, readIn, decoded, shownAs}
+use Rattle.decode.specs.Decode.{treeAnswer, replyOf, decodedOf, readIn, decodedAt, decoded, shownAs}
+use Rattle.tree.specs.Loose.{looseOf}
+use Rattle.tree.specs.declared.loose.Loose.{Loose}
 use Rattle.tree.specs.Mode.{limitsOf, modeOf, Whole}
 use Rattle.tree.specs.declared.limits.Limits.{Limits}
 use Rattle.tree.specs.declared.raw.ChildrenBytes.{ChildrenBytes}
@@ -45,6 +49,9 @@ use Rattle.tree.specs.declared.types.Leaf.{Leaf}
 use Rattle.tree.specs.declared.types.Leaf.the-variants as leaves
 use Rattle.tree.specs.declared.types.TokenTree.{TokenTree}
 use Rattle.tree.specs.declared.types.TokenTree.the-variants as trees
+use Rattle.decode.specs.declared.decode.TreeAt.{TreeAt}
+use Rattle.decode.specs.declared.decode.TreeDecoded.{TreeDecoded}
+use Rattle.decode.specs.declared.decode.TreeDecoded.the-variants as decodeds
 use Rattle.decode.specs.declared.decode.TreeRead.{TreeRead}
 use Rattle.decode.specs.declared.decode.TreeRead.the-variants.{Got, Refused}
 use Rattle.tree.proofs.OwnMode.{pairOf, own-whole, own-mode}
@@ -361,21 +368,44 @@ module _ (b : List ℕ) (M : Mode) (n at : ℕ) (r : RawRead) (e : r ≡ rawAnsw
 
 pub ruleset decode-cases = (decode-bad, decode-fits, decode-found)
 
+-- ---- with its report
+
+module _ (x : format.Loose) (a : TreeRead) where
+  pub told-refused : (k : ℕ) → a ≡ Refused k → decodedOf (decodeds.Refused k) ≡ beside x (replyOf a)
+  unfolding decodedOf replyOf
+  told-refused k e = rw e
+
+  pub told-got : (y : TreeAt) → a ≡ Got y → (l : Loose) → looseOf l ≡ x
+      → decodedOf (decodeds.Got (record { tree = y .tree; next = y .next; children = y .children; loose = l })) ≡ beside x (replyOf a)
+  unfolding decodedOf replyOf
+  told-got y e l f = rw (e, f)
+
+pub ruleset told-cases = (told-refused, told-got)
+
 -- ---- document 01's mode, behind row 1
 
-module _ (b parts symbols : List ℕ) (n at : ℕ) (s : Bool) (e : s ≡ ownTables parts symbols .sized) where
-  pub sizes-1 : not s ≡ true → Refused 1 ≡ treeAnswer (decoded b parts symbols n at)
-  unfolding decoded treeAnswer
+reply-of : (z : Reply TokenTree) → replyOf (treeAnswer z) ≡ z
+unfolding replyOf treeAnswer
+reply-of (got t n k) = refl
+reply-of (bad r) = refl
+
+module _ (b parts symbols : List ℕ) (n at : ℕ) (x : format.Loose) (s : Bool) (e : s ≡ ownTables parts symbols .sized) where
+  pub sizes-1 : not s ≡ true → decodedOf (decodeds.Refused 1) ≡ beside x (decoded b parts symbols n at)
+  unfolding decoded decodedOf
   sizes-1 h = let k : ownTables parts symbols .sized ≡ false = sym e ∙ not-true s h in rw k
 
   module _ (h : not s ≡ false) (N : Limits) (d : limitsOf N ≡ ownLimits (length parts / partSize) (length symbols)) where
     pub sizes-whole : Whole N parts (pairOf N parts) symbols
     sizes-whole = own-whole parts symbols (sym e ∙ not-false s h) N d
 
-    pub sizes-silent : (r : TreeRead) → r ≡ treeAnswer (readIn b (modeOf N parts (pairOf N parts) symbols) n at) → r ≡ treeAnswer (decoded b parts symbols n at)
+    pub sizes-silent : (a : TreeRead) → a ≡ treeAnswer (readIn b (modeOf N parts (pairOf N parts) symbols) n at)
+        → (r : TreeDecoded) → decodedOf r ≡ beside x (replyOf a) → decodedOf r ≡ beside x (decoded b parts symbols n at)
     unfolding decoded
-    sizes-silent r q =
+    sizes-silent a f r q =
         let k : ownTables parts symbols .sized ≡ true = sym e ∙ not-false s h in
-        q ∙ ap (λ (M : Mode). treeAnswer (readIn b M n at)) (own-mode parts symbols k N d) ∙ rw k
+        let z : replyOf a ≡ readIn b (modeOf N parts (pairOf N parts) symbols) n at = ap replyOf f ∙ reply-of _ in
+        let m : readIn b (modeOf N parts (pairOf N parts) symbols) n at ≡ decodedAt b parts symbols n at = ap (λ (M : Mode). readIn b M n at) (own-mode parts symbols k N d) in
+        let w : decodedAt b parts symbols n at ≡ decoded b parts symbols n at = sym (ap (λ (c : Bool). if c then decodedAt b parts symbols n at else bad 1) k) in
+        q ∙ ap (beside x) (z ∙ m ∙ w)
 
 pub ruleset sized-cases = (sizes-1, sizes-whole, sizes-silent)

@@ -4,3 +4,4 @@ pub mod JudgeReturns
 pub mod JudgeUse
 pub mod DecodeReturns
 pub mod DecodeUse
+pub mod LooseReturns

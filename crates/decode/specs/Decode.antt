@@ -6,14 +6,28 @@ use Rattle.format.specs.Reader.{Reply, got, bad}
 use Rattle.format.specs.Tree.{Raw, treeAt}
 use Rattle.format.specs.Tables.{rules, Mode, modeTables, ownMode, ownTables}
 use Rattle.format.specs.Buffer.{judge}
+use Rattle.format.specs.Loose.{Loose}
+use Rattle.tree.specs.Loose.{looseOf}
 use Rattle.tree.specs.Types.{resolved}
 use Rattle.tree.specs.declared.types.TokenTree.{TokenTree}
+use Rattle.decode.specs.declared.decode.TreeDecoded.{TreeDecoded}
+use Rattle.decode.specs.declared.decode.TreeDecoded.the-variants as decodeds
 use Rattle.decode.specs.declared.decode.TreeRead.{TreeRead}
 use Rattle.decode.specs.declared.decode.TreeRead.the-variants.{Got, Refused}
 
 unfoldable pub treeAnswer : Reply TokenTree → TreeRead
 treeAnswer (got t next kids) = Got (record { tree = t; next = next; children = record { 0 = kids } })
 treeAnswer (bad r) = Refused r
+
+-- and back
+unfoldable pub replyOf : TreeRead → Reply TokenTree
+replyOf (Got y) = got (y .tree) (y .next) (y .children .0)
+replyOf (Refused r) = bad r
+
+-- with its report
+unfoldable pub decodedOf : TreeDecoded → Reply (TokenTree × Loose)
+decodedOf (decodeds.Got y) = got (y .tree, looseOf (y .loose)) (y .next) (y .children .0)
+decodedOf (decodeds.Refused r) = bad r
 
 -- what every reader of the source's trees reads over the tables of a mode: the tree shown by its entries
 unfoldable pub readIn : List ℕ → Mode → ℕ → ℕ → Reply TokenTree

@@ -2,10 +2,12 @@
 use crate::judge::punct_row;
 use crate::judge::subtree_row;
 use crate::judge::symbol_row;
+use crate::loose::loose_at;
 use crate::read::raw_at;
 use pack::span::PackedSpan;
 use tree::limits::Limits;
 use tree::limits::own_limits;
+use tree::loose::Loose;
 use tree::ranged::delimiter_of;
 use tree::ranged::is_raw_of;
 use tree::ranged::lit_kind_of;
@@ -36,10 +38,11 @@ ghost use Rattle.pack.specs.Answer.{spanOf};
 ghost use Rattle.format.specs.Width.{partSize};
 ghost use Rattle.format.specs.Part.{partAt};
 ghost use Rattle.format.specs.Fields.{fields};
+ghost use Rattle.format.specs.Loose.{beside, looseAt};
 ghost use Rattle.tree.specs.Raw.{rawOf, punctRaw, identRaw, literalRaw, subtreeRaw};
 ghost use Rattle.tree.specs.Types.{spanWith, punctWith, identWith, literalWith, subtreeWith};
 ghost use Rattle.tree.specs.Mode.{modeOf, Whole};
-ghost use Rattle.decode.specs.Decode.{treeAnswer, readIn, decoded, shownAs};
+ghost use Rattle.decode.specs.Decode.{treeAnswer, replyOf, decodedOf, readIn, decoded, shownAs};
 
 pub struct TreeAt {
     pub tree: TokenTree,
@@ -49,6 +52,19 @@ pub struct TreeAt {
 
 pub enum TreeRead {
     Got(TreeAt),
+    Refused(u32),
+}
+
+// The same with the report on its spans.
+pub struct DecodedTree {
+    pub tree: TokenTree,
+    pub next: usize,
+    pub children: ChildrenBytes,
+    pub loose: Loose,
+}
+
+pub enum TreeDecoded {
+    Got(DecodedTree),
     Refused(u32),
 }
 
@@ -131,8 +147,8 @@ fn literal_from(parts: &[u32], symbols: &[u32], p: RawLiteral) -> Leaf
 
 // With two entries of a table.
 fn subtree_from(table: &[u32], opens: usize, closes: usize, p: RawSubtree) -> Subtree
-    requires { ⌜ (partSize * opens + partSize ≤ length (now table)) × (partSize * closes + partSize ≤ length (now table))
-        × (fields (subtreeRaw p) ≡ true) ⌝ }
+    requires { ⌜ (partSize * opens + partSize ≤ length (now table))
+        × (partSize * closes + partSize ≤ length (now table)) × (fields (subtreeRaw p) ≡ true) ⌝ }
     ensures { λ r. ⌜
         r ≡ subtreeWith (partAt (now (table .entry)) opens) (partAt (now (table .entry)) closes)
         (spanOf (p .opening)) (spanOf (p .closing)) (p .len .0) (p .kind)
@@ -348,14 +364,34 @@ pub fn decode_in(
     }
 }
 
+// What was read at a place, with the report on its spans.
+fn reported(b: &[u8], at: usize, read: TreeRead) -> TreeDecoded
+    ensures { λ r. ⌜ decodedOf r ≡ beside (looseAt (now (b .entry)) at) (replyOf read) ⌝ }
+{
+    match read {
+        TreeRead::Refused(number) => TreeDecoded::Refused(number),
+        TreeRead::Got(here) => {
+            let tree = here.tree;
+            let children = here.children;
+            TreeDecoded::Got(DecodedTree {
+                tree: tree,
+                next: here.next,
+                children: children,
+                loose: loose_at(b, at),
+            })
+        }
+    }
+}
+
 // Over a part table whose last two are the root's, row 1 of the tables first.
-pub fn decode(b: &[u8], parts: &[u32], symbols: &[u32], n: u32, at: usize) -> TreeRead
-    ensures { λ r. ⌜ r ≡ treeAnswer (decoded (now (b .entry)) (now (parts .entry)) (now (symbols .entry)) n at) ⌝ }
+pub fn decode(b: &[u8], parts: &[u32], symbols: &[u32], n: u32, at: usize) -> TreeDecoded
+    ensures { λ r. ⌜ decodedOf r ≡ beside (looseAt (now (b .entry)) at)
+        (decoded (now (b .entry)) (now (parts .entry)) (now (symbols .entry)) n at) ⌝ }
 {
     if !tables_sized(parts, symbols) {
-        return TreeRead::Refused(1);
+        return TreeDecoded::Refused(1);
     }
     let limits = own_limits(parts.len() / PART_WORDS, symbols.len());
     let pair = &parts[PART_WORDS * limits.limit..];
-    decode_in(b, limits, parts, pair, symbols, n, at)
+    reported(b, at, decode_in(b, limits, parts, pair, symbols, n, at))
 }

@@ -1,7 +1,7 @@
 // One tree at a place of a buffer, in whatever form its bytes say: its bytes first, then its fields.
 use pack::span::PackedSpan;
 use pack::span::SpanRead;
-use pack::span::decode_span;
+use pack::span::span_at;
 use pack::symbol::SymbolRead;
 use pack::symbol::decode_symbol;
 use pack::unchecked::byte_at;
@@ -162,7 +162,7 @@ fn form_101(b: &[u8], at: usize, control: u32, span: PackedSpan) -> RawRead
         (closed101 (now (b .entry)) (spanOf span) control (spanAt (now (b .entry)) (at + 1))))
         ⌝ }
 {
-    let SpanRead::Read(close) = decode_span(b, at + 1) else {
+    let SpanRead::Read(close) = span_at(b, at + 1) else {
         return RawRead::Bad(7);
     };
     let next = close.next;
@@ -321,7 +321,7 @@ fn ident_at(b: &[u8], at: usize, span: PackedSpan) -> RawRead
 pub(crate) fn raw_at(b: &[u8], at: usize) -> RawRead
     ensures { λ r. ⌜ r ≡ rawAnswer (inRange (treeAt (now (b .entry)) at)) ⌝ }
 {
-    let SpanRead::Read(head) = decode_span(b, at) else {
+    let SpanRead::Read(head) = span_at(b, at) else {
         return RawRead::Bad(7);
     };
     let next = head.next;

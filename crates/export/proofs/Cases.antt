@@ -4,18 +4,18 @@ use mathlib.Core.Path.{_≡_, refl, sym, ap, _∙_}
 use mathlib.Core.Bool.{Bool}
 use mathlib.Core.List.{List, [], _∷_}
 use borrow.Author.Tests.{lt-ltb, le-ltb}
-use lib.ListN.{length}
+use lib.ListN.{length, set}
+use lib.Seq.{sets-eq}
 use Rattle.format.specs.Test.{if_then_else_}
-use Rattle.format.specs.Width.{treeSize}
 use Rattle.format.specs.Word.{put}
 use Rattle.format.specs.Span.{Span, spanAt, symbolAt}
-use Rattle.pack.specs.Answer.{spanAnswer, symbolAnswer}
+use Rattle.pack.specs.Answer.{decodedAnswer, symbolAnswer}
 use Rattle.pack.specs.Packing.{SpanPacked, SymbolPacked}
 use Rattle.pack.specs.declared.Packed.{Packed}
 use Rattle.pack.specs.declared.Packed.the-variants.{Written, Refused}
-use Rattle.pack.specs.declared.span.SpanAt.{SpanAt}
-use Rattle.pack.specs.declared.span.SpanRead.{SpanRead}
-use Rattle.pack.specs.declared.span.SpanRead.the-variants as spans
+use Rattle.pack.specs.declared.span.DecodedSpan.{DecodedSpan}
+use Rattle.pack.specs.declared.span.SpanDecoded.{SpanDecoded}
+use Rattle.pack.specs.declared.span.SpanDecoded.the-variants as spans
 use Rattle.pack.specs.declared.symbol.SymbolAt.{SymbolAt}
 use Rattle.pack.specs.declared.symbol.SymbolRead.{SymbolRead}
 use Rattle.pack.specs.declared.symbol.SymbolRead.the-variants as symbols
@@ -30,13 +30,17 @@ use Rattle.tree.specs.declared.words.RawWords.{RawWords}
 use Rattle.tree.specs.declared.words.RawWords.the-variants as raws
 use Rattle.tree.proofs.RawAgain.{raw-again}
 use mathlib.Core.List.{_++_}
+use Rattle.format.specs.Loose.{bit, looseAt, beside}
+use Rattle.tree.specs.Loose.{looseOf}
 use Rattle.tree.specs.Types.{treeWordsOf}
-use Rattle.decode.specs.Decode.{treeAnswer, decoded}
-use Rattle.decode.specs.declared.decode.TreeAt.{TreeAt}
-use Rattle.decode.specs.declared.decode.TreeRead.{TreeRead}
-use Rattle.decode.specs.declared.decode.TreeRead.the-variants as trees
+use Rattle.format.specs.Reader.{got, bad}
+use Rattle.decode.specs.Decode.{decodedOf, decoded}
+use Rattle.decode.specs.declared.decode.DecodedTree.{DecodedTree}
+use Rattle.decode.specs.declared.decode.TreeDecoded.{TreeDecoded}
+use Rattle.decode.specs.declared.decode.TreeDecoded.the-variants as trees
 use Rattle.encode.specs.Encode.{packTree, TreePacked}
-use Rattle.export.specs.Code.{codeOf, refusalCode, SpanStored, SymbolStored, spanWords, symbolWords, SpanFound, SymbolFound, TreeStored, RootStored, TreeFound}
+use Rattle.export.specs.Code.{codeOf, refusalCode, SpanStored, SymbolStored, spanWords, symbolWords, SpanFound, SymbolFound, TreeStored, RootStored, foundSize, TreeFound}
+use Rattle.export.specs.Steps.{looseWords}
 
 pub code-written : (p : Packed) (n : ℕ) → p ≡ Written n → n ≡ codeOf p
 code-written p n e = rw e
@@ -51,18 +55,18 @@ pub symbol-stored : (b : List ℕ) (at t i : ℕ) (p : Packed) (r : ℕ) (b′ :
 symbol-stored b at t i p r b′ q e = record { reply = e ∙ ap codeOf (q .answer); contents = q .contents }
 
 module _ (b : List ℕ) (at : ℕ) (w : List ℕ) where
-  pub span-few : length w < 4 → SpanFound b at w 9223372036854775814 w
-  span-few h = let t = lt-ltb (length w) 4 h in record { reply = simp t; contents = simp t }
+  pub span-few : length w < 5 → SpanFound b at w 9223372036854775814 w
+  span-few h = let t = lt-ltb (length w) 5 h in record { reply = simp t; contents = simp t }
 
   pub symbol-few : length w < 2 → SymbolFound b at w 9223372036854775814 w
   symbol-few h = let t = lt-ltb (length w) 2 h in record { reply = simp t; contents = simp t }
 
-  module _ (h : 4 ≤ length w) (a : SpanRead) (e : a ≡ spanAnswer (spanAt b at)) where
+  module _ (h : 5 ≤ length w) (a : SpanDecoded) (e : a ≡ decodedAnswer at (spanAt b at)) where
     pub span-none : a ≡ spans.Short → SpanFound b at w 9223372036854775815 w
-    span-none k = let t = le-ltb (length w) 4 h in let f = sym e ∙ k in record { reply = simp (t, f); contents = simp (t, f) }
+    span-none k = let t = le-ltb (length w) 5 h in let f = sym e ∙ k in record { reply = simp (t, f); contents = simp (t, f) }
 
-    pub span-some : (y : SpanAt) (w′ : List ℕ) → a ≡ spans.Read y → w′ ≡ put w 0 (spanWords y) → SpanFound b at w (y .next) w′
-    span-some y w′ k q = let t = le-ltb (length w) 4 h in let f = sym e ∙ k in record { reply = simp (t, f); contents = simp (t, f) q }
+    pub span-some : (y : DecodedSpan) (w′ : List ℕ) → a ≡ spans.Read y → w′ ≡ put w 0 (spanWords y) → SpanFound b at w (y .next) w′
+    span-some y w′ k q = let t = le-ltb (length w) 5 h in let f = sym e ∙ k in record { reply = simp (t, f); contents = simp (t, f) q }
 
   module _ (h : 2 ≤ length w) (a : SymbolRead) (e : a ≡ symbolAnswer (symbolAt b at)) where
     pub symbol-none : a ≡ symbols.Short → SymbolFound b at w 9223372036854775815 w
@@ -120,16 +124,26 @@ root-stored b at s t n d kids p r b′ k e = record { reply = e ∙ ap codeOf (k
 -- ---- a tree that is read
 
 module _ (b parts symbols : List ℕ) (n at : ℕ) (w : List ℕ) where
-  pub tree-few : length w < treeSize + 1 → TreeFound b parts symbols n at w 9223372036854775814 w
-  tree-few h = let t = lt-ltb (length w) (treeSize + 1) h in record { reply = simp t; contents = simp t }
+  pub tree-few : length w < foundSize → TreeFound b parts symbols n at w 9223372036854775814 w
+  tree-few h = let t = lt-ltb (length w) foundSize h in record { reply = simp t; contents = simp t }
 
-  module _ (h : treeSize + 1 ≤ length w) (a : TreeRead) (e : a ≡ treeAnswer (decoded b parts symbols n at)) where
+  module _ (h : foundSize ≤ length w) (a : TreeDecoded) (e : decodedOf a ≡ beside (looseAt b at) (decoded b parts symbols n at)) where
     pub tree-none : (k r : ℕ) → a ≡ trees.Refused k → r ≡ refusalCode k → TreeFound b parts symbols n at w r w
-    tree-none k r d q = let t = le-ltb (length w) (treeSize + 1) h in let f = sym e ∙ d in record { reply = simp (t, f) q; contents = simp (t, f) }
+    unfolding decodedOf
+    tree-none k r d q = let t = le-ltb (length w) foundSize h in let f : beside (looseAt b at) (decoded b parts symbols n at) ≡ bad k = sym e ∙ ap decodedOf d in record { reply = simp (t, f) q; contents = simp (t, f) }
 
-    pub tree-some : (y : TreeAt) (ws w′ : List ℕ) → a ≡ trees.Got y → ws ≡ treeWordsOf (y .tree) → w′ ≡ put w 0 (ws ++ y .children .0 ∷ []) → TreeFound b parts symbols n at w (y .next) w′
-    tree-some y ws w′ d g q = let t = le-ltb (length w) (treeSize + 1) h in let f = sym e ∙ d in record { reply = simp (t, f); contents = simp (t, f) (q ∙ rw g) }
+    pub tree-some : (y : DecodedTree) (ws w′ : List ℕ) → a ≡ trees.Got y → ws ≡ treeWordsOf (y .tree) → w′ ≡ put w 0 (ws ++ y .children .0 ∷ looseWords (looseOf (y .loose))) → TreeFound b parts symbols n at w (y .next) w′
+    unfolding decodedOf
+    tree-some y ws w′ d g q =
+        let t = le-ltb (length w) foundSize h in
+        let f : beside (looseAt b at) (decoded b parts symbols n at) ≡ got (y .tree, looseOf (y .loose)) (y .next) (y .children .0) = sym e ∙ ap decodedOf d in record { reply = simp (t, f); contents = simp (t, f) (q ∙ rw g) }
 
 pub ruleset tree-cases = (tree-refused, tree-stored, root-stored, tree-few, tree-none, tree-some)
 
-pub ruleset export-cases = (code-written, code-refused, span-stored, symbol-stored, span-few, symbol-few, span-none, span-some, symbol-none, symbol-some)
+-- a span's words
+pub span-words : (w : List ℕ) (a₀ a₁ a₂ a₃ n : ℕ) (x : Bool) → 5 ≤ length w → n ≡ bit x
+    → set (set (set (set (set w 0 a₀) 1 a₁) 2 a₂) 3 a₃) 4 n ≡ put w 0 (a₀ ∷ a₁ ∷ a₂ ∷ a₃ ∷ bit x ∷ [])
+unfolding put
+span-words w a₀ a₁ a₂ a₃ n x h e = sets-eq (a₀ ∷ a₁ ∷ a₂ ∷ a₃ ∷ n ∷ []) w 0 h ∙ ap (λ (m : ℕ). put w 0 (a₀ ∷ a₁ ∷ a₂ ∷ a₃ ∷ m ∷ [])) e
+
+pub ruleset export-cases = (span-words, code-written, code-refused, span-stored, symbol-stored, span-few, symbol-few, span-none, span-some, symbol-none, symbol-some)

@@ -15,20 +15,22 @@ use Rattle.format.specs.Verdict as verdict
 use Rattle.format.specs.Tree.{Raw, subtree}
 use Rattle.format.specs.WordList.{wordOf, rawFrom, wordFields}
 use Rattle.format.specs.Write.{treeBytes}
-use Rattle.pack.specs.Answer.{packedAnswer, spanAnswer, symbolAnswer, spanNumber, symbolNumber}
+use Rattle.pack.specs.Answer.{packedAnswer, decodedAnswer, symbolAnswer, spanNumber, symbolNumber}
 use Rattle.pack.specs.declared.Packed.{Packed}
 use Rattle.pack.specs.declared.Packed.the-variants.{Written, Refused}
-use Rattle.pack.specs.declared.span.SpanAt.{SpanAt}
-use Rattle.pack.specs.declared.span.SpanRead.{SpanRead}
-use Rattle.pack.specs.declared.span.SpanRead.the-variants as spans
+use Rattle.pack.specs.declared.span.DecodedSpan.{DecodedSpan}
+use Rattle.pack.specs.declared.span.SpanDecoded.{SpanDecoded}
+use Rattle.pack.specs.declared.span.SpanDecoded.the-variants as spans
 use Rattle.pack.specs.declared.symbol.SymbolAt.{SymbolAt}
 use Rattle.pack.specs.declared.symbol.SymbolRead.{SymbolRead}
 use Rattle.pack.specs.declared.symbol.SymbolRead.the-variants as symbols
+use Rattle.format.specs.Reader.{Reply, got, bad}
+use Rattle.format.specs.Loose.{Loose, bit, looseAt, beside}
 use Rattle.tree.specs.Types.{treeWordsOf}
-use Rattle.decode.specs.Decode.{treeAnswer, decoded}
-use Rattle.decode.specs.declared.decode.TreeRead.{TreeRead}
-use Rattle.decode.specs.declared.decode.TreeRead.the-variants as trees
+use Rattle.tree.specs.declared.types.TokenTree.{TokenTree}
+use Rattle.decode.specs.Decode.{decoded}
 use Rattle.encode.specs.Encode.{packTree}
+use Rattle.export.specs.Steps.{looseSize, looseWords}
 
 -- a refusal's number, out of the way of every length and place
 abbrev pub refusalCode : ℕ → ℕ
@@ -47,17 +49,17 @@ pub record SymbolStored (b : List ℕ) (at tag i : ℕ) (r : ℕ) (b′ : List �
   pub contents : b′ ≡ symbolPacked b at tag i
 
 -- what is read, as words
-abbrev pub spanWords : SpanAt → List ℕ
-spanWords y = y .span .index ∷ y .span .start ∷ y .span .len ∷ y .extra ∷ []
+abbrev pub spanWords : DecodedSpan → List ℕ
+spanWords y = y .span .index ∷ y .span .start ∷ y .span .len ∷ y .extra ∷ bit (y .loose) ∷ []
 
 abbrev pub symbolWords : SymbolAt → List ℕ
 symbolWords y = y .index ∷ y .tag ∷ []
 
-abbrev pub spanCode : SpanRead → ℕ
+abbrev pub spanCode : SpanDecoded → ℕ
 spanCode (spans.Read y) = y .next
 spanCode spans.Short = refusalCode (spanNumber spans.Short)
 
-abbrev pub spanLeft : List ℕ → SpanRead → List ℕ
+abbrev pub spanLeft : List ℕ → SpanDecoded → List ℕ
 spanLeft w (spans.Read y) = put w 0 (spanWords y)
 spanLeft w spans.Short = w
 
@@ -71,8 +73,8 @@ symbolLeft w symbols.Short = w
 
 -- too few words are 6
 pub record SpanFound (b : List ℕ) (at : ℕ) (w : List ℕ) (r : ℕ) (w′ : List ℕ) : Type 0 where
-  pub reply : r ≡ (if ltb (length w) 4 then refusalCode 6 else spanCode (spanAnswer (spanAt b at)))
-  pub contents : w′ ≡ (if ltb (length w) 4 then w else spanLeft w (spanAnswer (spanAt b at)))
+  pub reply : r ≡ (if ltb (length w) 5 then refusalCode 6 else spanCode (decodedAnswer at (spanAt b at)))
+  pub contents : w′ ≡ (if ltb (length w) 5 then w else spanLeft w (decodedAnswer at (spanAt b at)))
 
 pub record SymbolFound (b : List ℕ) (at : ℕ) (w : List ℕ) (r : ℕ) (w′ : List ℕ) : Type 0 where
   pub reply : r ≡ (if ltb (length w) 2 then refusalCode 6 else symbolCode (symbolAnswer (symbolAt b at)))
@@ -96,15 +98,18 @@ pub record RootStored (b : List ℕ) (at : ℕ) (s t : Span) (n d kids : ℕ) (r
   pub reply : r ≡ treeReply b at 0 (subtree s t n d) kids
   pub contents : b′ ≡ treeLeft b at 0 (subtree s t n d) kids
 
--- tree n as it is read: its list words and the children bytes
-abbrev pub treeCode : TreeRead → ℕ
-treeCode (trees.Got y) = y .next
-treeCode (trees.Refused k) = refusalCode k
+-- tree n as it is read: its list words, the children bytes and the report
+abbrev pub foundSize : ℕ
+foundSize = treeSize + 1 + looseSize
 
-abbrev pub foundWords : List ℕ → TreeRead → List ℕ
-foundWords w (trees.Got y) = put w 0 (treeWordsOf (y .tree) ++ y .children .0 ∷ [])
-foundWords w (trees.Refused k) = w
+abbrev pub treeCode : Reply (TokenTree × Loose) → ℕ
+treeCode (got t next kids) = next
+treeCode (bad k) = refusalCode k
+
+abbrev pub foundWords : List ℕ → Reply (TokenTree × Loose) → List ℕ
+foundWords w (got t next kids) = put w 0 (treeWordsOf (t .0) ++ kids ∷ looseWords (t .1))
+foundWords w (bad k) = w
 
 pub record TreeFound (b parts symbols : List ℕ) (n at : ℕ) (w : List ℕ) (r : ℕ) (w′ : List ℕ) : Type 0 where
-  pub reply : r ≡ (if ltb (length w) (treeSize + 1) then refusalCode 6 else treeCode (treeAnswer (decoded b parts symbols n at)))
-  pub contents : w′ ≡ (if ltb (length w) (treeSize + 1) then w else foundWords w (treeAnswer (decoded b parts symbols n at)))
+  pub reply : r ≡ (if ltb (length w) foundSize then refusalCode 6 else treeCode (beside (looseAt b at) (decoded b parts symbols n at)))
+  pub contents : w′ ≡ (if ltb (length w) foundSize then w else foundWords w (beside (looseAt b at) (decoded b parts symbols n at)))

@@ -1,5 +1,5 @@
 -- Answers of walk steps and cursor calls in one number, and what they leave in lent words.
-use Prim.Native.Nat.{ℕ}
+use Prim.Native.Nat.{ℕ, _+_}
 use mathlib.Core.Bool.{Bool, true, false}
 use mathlib.Core.Path.{_≡_}
 use mathlib.Core.List.{List, [], _∷_, _++_}
@@ -8,17 +8,45 @@ use lib.ListN.{length}
 use Rattle.format.specs.Test.{if_then_else_}
 use Rattle.format.specs.Width.{spanSize, treeSize}
 use Rattle.format.specs.Word.{put}
-use Rattle.format.specs.Reader.{Answer, done, none, one, two, refused}
+use Rattle.format.specs.Reader.{Answer, done, none, one, two, refused, mapped}
 use Rattle.format.specs.Walk as steps
-use Rattle.format.specs.LastSpan.{lastSpan}
+use Rattle.format.specs.LastSpan.{lastReported}
+use Rattle.format.specs.Loose.{Loose, bit, looseAt, reportedShape, reported}
 use Rattle.format.specs.Buffer.{wordShape, ownReader}
-use Rattle.walk.specs.Source.{answerWords}
+use Rattle.walk.specs.Source.{answerReport}
 use Rattle.walk.specs.Walk.{walkOf, answerOf}
 use Rattle.walk.specs.Last.{lastOf}
 use Rattle.walk.specs.declared.walk.Walk.{Walk}
 use Rattle.walk.specs.declared.walk.Step.{Step}
 use Rattle.walk.specs.declared.last_span.LastSpan.{LastSpan}
 use Rattle.export.specs.Replies.{refusedCode}
+
+-- ---- reports as words
+
+abbrev pub looseSize : ℕ
+looseSize = 3
+
+abbrev pub looseWords : Loose → List ℕ
+looseWords x = bit (x .opening) ∷ bit (x .closing) ∷ x .spans ∷ []
+
+-- a tree's words, then its report
+abbrev pub reportedSize : ℕ
+reportedSize = treeSize + looseSize
+
+abbrev pub reportList : List ℕ × Loose → List ℕ
+reportList t = t .0 ++ looseWords (t .1)
+
+abbrev pub answerList : Answer (List ℕ × Loose) → Answer (List ℕ)
+answerList a = mapped reportList a
+
+-- a span's words, then its report
+abbrev pub lastSize : ℕ
+lastSize = spanSize + 1
+
+abbrev pub lastList : Answer (List ℕ × Bool) → Answer (List ℕ)
+lastList a = mapped (λ (s : List ℕ × Bool). s .0 ++ bit (s .1) ∷ []) a
+
+-- ---- replies
 
 -- 0 none, 1 a tree or a span, 2 two leaves, 3 nothing to hand back
 abbrev pub answerCode : Answer (List ℕ) → ℕ
@@ -71,24 +99,24 @@ abbrev pub stateList : steps.Walk → List ℕ
 stateList w = w .place ∷ w .number ∷ w .left ∷ []
 
 pub record StepStored (s : Step) (next words : List ℕ) (r : ℕ) (next′ words′ : List ℕ) : Type 0 where
-  pub replied : Replied (answerWords (answerOf (s .answer))) (walkList (s .walk)) next words r next′ words′
+  pub replied : Replied (answerList (answerReport (answerOf (s .answer)))) (walkList (s .walk)) next words r next′ words′
 
 module _ (b : List ℕ) (k : ℕ) (parts symbols : List ℕ) (w : Walk) where
-  abbrev pub stepped : Bool → Answer (List ℕ) × steps.Walk
-  stepped skips = steps.walkStep wordShape (ownReader b k parts symbols) (stepCall skips) (walkOf w)
+  abbrev pub stepped : Bool → Answer (List ℕ × Loose) × steps.Walk
+  stepped skips = steps.walkStep (reportedShape wordShape) (reported (looseAt b) (ownReader b k parts symbols)) (stepCall skips) (walkOf w)
 
   pub record WalkReplied (skips : Bool) (next words : List ℕ) (r : ℕ) (next′ words′ : List ℕ) : Type 0 where
-    pub replied : Replied (withRoom treeSize next words (stepped skips .0)) (stateList (stepped skips .1)) next words r next′ words′
+    pub replied : Replied (withRoom reportedSize next words (answerList (stepped skips .0))) (stateList (stepped skips .1)) next words r next′ words′
 
 -- ---- the last span
 
 abbrev pub withSpan : List ℕ → Answer (List ℕ) → Answer (List ℕ)
-withSpan words a = if ltb (length words) spanSize then refused 6 0 else a
+withSpan words a = if ltb (length words) lastSize then refused 6 0 else a
 
 pub record LastStored (a : LastSpan) (words : List ℕ) (r : ℕ) (words′ : List ℕ) : Type 0 where
-  pub reply : r ≡ answerCode (lastOf a)
-  pub handed : words′ ≡ wordsAfter (lastOf a) words
+  pub reply : r ≡ answerCode (lastList (lastOf a))
+  pub handed : words′ ≡ wordsAfter (lastList (lastOf a)) words
 
 pub record LastReplied (b : List ℕ) (k : ℕ) (parts symbols : List ℕ) (w : Walk) (words : List ℕ) (r : ℕ) (words′ : List ℕ) : Type 0 where
-  pub reply : r ≡ answerCode (withSpan words (lastSpan b k parts symbols (walkOf w)))
-  pub handed : words′ ≡ wordsAfter (withSpan words (lastSpan b k parts symbols (walkOf w))) words
+  pub reply : r ≡ answerCode (withSpan words (lastList (lastReported b k parts symbols (walkOf w))))
+  pub handed : words′ ≡ wordsAfter (withSpan words (lastList (lastReported b k parts symbols (walkOf w)))) words

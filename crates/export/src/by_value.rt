@@ -8,9 +8,10 @@ use cursor::cursor::Next;
 use cursor::state::At;
 ghost use mathlib.Core.Path.{_≡_};
 ghost use Prim.Native.Nat.{_≤_};
-ghost use Rattle.walk.specs.Source.{answerWords};
+ghost use Rattle.walk.specs.Source.{answerReport};
 ghost use Rattle.cursor.specs.Plan.{answerOf};
 ghost use Rattle.cursor.specs.Moves.{atOf};
+ghost use Rattle.export.specs.Steps.{answerList};
 ghost use Rattle.export.specs.Cursors.{callOf, Called, CursorReplied};
 
 // Every call but `peek_two_leaves`.
@@ -25,7 +26,8 @@ fn value_call(
     requires { ⌜ call ≤ 3 ⌝ }
     ensures { λ r. ⌜ Called (now (b .entry)) trees (now (parts .entry)) (now (symbols .entry)) (callOf call)
         (atOf cursor)
-        (cursor .numbers) (cursor .counts) (cursor .places) (answerWords (answerOf (r .answer))) (atOf (r .cursor))
+        (cursor .numbers) (cursor .counts) (cursor .places)
+        (answerList (answerReport (answerOf (r .answer)))) (atOf (r .cursor))
         (r .cursor .numbers) (r .cursor .counts) (r .cursor .places) ⌝ }
 {
     if call == 0 {

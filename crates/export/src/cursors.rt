@@ -12,8 +12,9 @@ use cursor::look::token_tree;
 use cursor::state::At;
 ghost use mathlib.Core.Path.{_≡_};
 ghost use Prim.Native.Nat.{_≤_};
-ghost use Rattle.walk.specs.Source.{answerWords};
+ghost use Rattle.walk.specs.Source.{answerReport};
 ghost use Rattle.cursor.specs.Plan.{answerOf};
+ghost use Rattle.export.specs.Steps.{answerList};
 ghost use Rattle.export.specs.Cursors.{callOf, Called, CursorReplied};
 
 // Every call but `peek_two_leaves`.
@@ -30,7 +31,8 @@ fn lent_call(
 ) -> Moved
     requires { ⌜ call ≤ 3 ⌝ }
     ensures { λ r. ⌜ Called (now (b .entry)) trees (now (parts .entry)) (now (symbols .entry)) (callOf call) at
-        (now (numbers .entry)) (now (counts .entry)) (now (places .entry)) (answerWords (answerOf (r .answer))) (r .at)
+        (now (numbers .entry)) (now (counts .entry)) (now (places .entry))
+        (answerList (answerReport (answerOf (r .answer)))) (r .at)
         (now (numbers .exit)) (now (counts .exit)) (now (places .exit)) ⌝ }
 {
     if call == 0 {
@@ -49,8 +51,8 @@ fn lent_call(
     }
 }
 
-// The answer is 0 for none, 1 for a tree, 2 for two leaves, their list words being stored, 3 for nothing to hand
-// back, or a refusal. Unless refused, place, number and depth of the next cursor are stored.
+// The answer is 0 for none, 1 for a tree, 2 for two leaves, the list words and the report of each being stored, 3 for
+// nothing to hand back, or a refusal. Unless refused, place, number and depth of the next cursor are stored.
 #[no_mangle]
 pub extern "C" fn tt_cursor(
     b: &[u8],

@@ -1,10 +1,11 @@
 // Spans and symbols.
 use pack::Packed;
+use pack::span::DecodedSpan;
 use pack::span::PackedSpan;
-use pack::span::SpanAt;
-use pack::span::SpanRead;
+use pack::span::SpanDecoded;
 use pack::symbol::SymbolAt;
 use pack::symbol::SymbolRead;
+use tree::loose::bit;
 ghost use mathlib.Core.Path.{_≡_};
 ghost use mathlib.Core.List.{_∷_, []};
 ghost use Prim.Native.Nat.{_≤_};
@@ -56,8 +57,8 @@ pub extern "C" fn tt_encode_symbol(out: &mut [u8], at: usize, tag: u32, index: u
     code_of(p)
 }
 
-fn store_span(words: &mut [u32], y: SpanAt)
-    requires { ⌜ 4 ≤ length (now words) ⌝ }
+fn store_span(words: &mut [u32], y: DecodedSpan)
+    requires { ⌜ 5 ≤ length (now words) ⌝ }
     ensures { λ _. ⌜ now (words .exit) ≡ put (now (words .entry)) 0 (spanWords y) ⌝ }
 {
     let span = y.span;
@@ -65,18 +66,19 @@ fn store_span(words: &mut [u32], y: SpanAt)
     words[1] = span.start;
     words[2] = span.len;
     words[3] = y.extra;
+    words[4] = bit(y.loose);
 }
 
-// Index, start, length and extra bits go to four words.
+// Index, start, length, extra bits and whether a form of fewer bytes holds the span go to five words.
 // The answer is the place behind the span, or 2^63 and a refusal's number.
 #[no_mangle]
 pub extern "C" fn tt_decode_span(b: &[u8], at: usize, words: &mut [u32]) -> u64
     ensures { λ r. ⌜ SpanFound (now (b .entry)) at (now (words .entry)) r (now (words .exit)) ⌝ }
 {
-    if words.len() < 4 {
+    if words.len() < 5 {
         return 9223372036854775814;
     }
-    let SpanRead::Read(y) = pack::span::decode_span(b, at) else {
+    let SpanDecoded::Read(y) = pack::span::decode_span(b, at) else {
         return 9223372036854775815;
     };
     store_span(words, y);

@@ -1,11 +1,14 @@
 // One tree, by its list words and its indices.
 use crate::packing::code_of;
+use crate::unchecked::LOOSE_WORDS;
+use crate::unchecked::store_loose;
 use crate::unchecked::store_words;
-use decode::decode::TreeRead;
+use decode::decode::TreeDecoded;
 use decode::decode::decode;
 use encode::encode::encode;
 use encode::encode::encode_top_subtree;
 use pack::span::PackedSpan;
+use tree::loose::Loose;
 use tree::raw::ChildrenBytes;
 use tree::raw::Descendants;
 use tree::raw::RawSubtree;
@@ -19,7 +22,9 @@ ghost use Prim.Native.Nat.{_+_, _≤_};
 ghost use lib.ListN.{length};
 ghost use Rattle.format.specs.Width.{treeSize};
 ghost use Rattle.format.specs.Word.{put};
-ghost use Rattle.export.specs.Code.{refusalCode, TreeStored, RootStored, TreeFound};
+ghost use Rattle.tree.specs.Loose.{looseOf};
+ghost use Rattle.export.specs.Steps.{looseWords};
+ghost use Rattle.export.specs.Code.{refusalCode, foundSize, TreeStored, RootStored, TreeFound};
 
 fn refusal_code(k: u32) -> u64
     ensures { λ r. ⌜ r ≡ refusalCode k ⌝ }
@@ -90,10 +95,12 @@ pub extern "C" fn tt_encode_top_subtree(
     code_of(p)
 }
 
-// A tree's words and its children bytes.
-const FOUND_WORDS: usize = TREE_WORDS + 1;
+// A tree's words, its children bytes and its report.
+const LOOSE_AT: usize = TREE_WORDS + 1;
 
-fn store_tree(words: &mut [u32], from: [u32; TREE_WORDS], children: u32)
+const FOUND_WORDS: usize = LOOSE_AT + LOOSE_WORDS;
+
+fn store_counted(words: &mut [u32], from: [u32; TREE_WORDS], children: u32)
     requires { ⌜ treeSize + 1 ≤ length (now words) ⌝ }
     ensures { λ _. ⌜ now (words .exit) ≡ put (now (words .entry)) 0 (from ++ children ∷ []) ⌝ }
 {
@@ -101,7 +108,15 @@ fn store_tree(words: &mut [u32], from: [u32; TREE_WORDS], children: u32)
     words[TREE_WORDS] = children;
 }
 
-// The list words of tree n and then its children bytes are stored; the answer is the place behind the tree.
+fn store_tree(words: &mut [u32], from: [u32; TREE_WORDS], children: u32, loose: Loose)
+    requires { ⌜ foundSize ≤ length (now words) ⌝ }
+    ensures { λ _. ⌜ now (words .exit) ≡ put (now (words .entry)) 0 (from ++ children ∷ looseWords (looseOf loose)) ⌝ }
+{
+    store_counted(words, from, children);
+    store_loose(words, LOOSE_AT, loose);
+}
+
+// The list words of tree n, its children bytes and its report are stored; the answer is the place behind the tree.
 #[no_mangle]
 pub extern "C" fn tt_decode_tree(
     b: &[u8],
@@ -119,11 +134,12 @@ pub extern "C" fn tt_decode_tree(
     }
     let read = decode(b, parts, symbols, n, at);
     match read {
-        TreeRead::Refused(k) => refusal_code(k),
-        TreeRead::Got(y) => {
+        TreeDecoded::Refused(k) => refusal_code(k),
+        TreeDecoded::Got(y) => {
             let tree = y.tree;
             let children = y.children;
-            store_tree(words, tree_words(tree), children.0);
+            let loose = y.loose;
+            store_tree(words, tree_words(tree), children.0, loose);
             y.next as u64
         }
     }

@@ -1,8 +1,10 @@
 // Walks: a step, and the last span of what a walk has left.
 use crate::replies::TOO_SHORT;
 use crate::replies::refused_code;
+use crate::unchecked::REPORTED_WORDS;
+use crate::unchecked::store_reported;
 use crate::unchecked::store_state;
-use crate::unchecked::store_words;
+use tree::loose::bit;
 use tree::raw::place as wide;
 use tree::types::Span;
 use tree::words::tree_words;
@@ -15,15 +17,15 @@ use walk::walk::advance;
 use walk::walk::advance_skip_subtree;
 use width::PART_WORDS;
 use width::SPAN_WORDS;
-use width::TREE_WORDS;
 ghost use mathlib.Core.Path.{_≡_};
 ghost use Prim.Native.Nat.{_≤_};
 ghost use lib.ListN.{length};
-ghost use Rattle.format.specs.Width.{spanSize, treeSize};
+ghost use Rattle.format.specs.Width.{spanSize};
 ghost use Rattle.format.specs.Word.{put};
 ghost use Rattle.tree.specs.Types.{spanList};
 ghost use Rattle.walk.specs.Walk.{Stepped};
-ghost use Rattle.export.specs.Steps.{stepCall, walkList, StepStored, WalkReplied, LastStored, LastReplied};
+ghost use Rattle.export.specs.Steps.{reportedSize, lastSize, stepCall, walkList};
+ghost use Rattle.export.specs.Steps.{StepStored, WalkReplied, LastStored, LastReplied};
 
 fn walk_step(b: &[u8], trees: u32, parts: &[u32], symbols: &[u32], walk: Walk, skip: bool) -> Step
     ensures { λ r. ⌜ Stepped (now (b .entry)) trees (now (parts .entry)) (now (symbols .entry)) (stepCall skip) walk
@@ -44,7 +46,7 @@ fn store_walk(next: &mut [usize], walk: Walk)
 }
 
 fn store_step(step: Step, next: &mut [usize], words: &mut [u32]) -> u64
-    requires { ⌜ (3 ≤ length (now next)) × (treeSize ≤ length (now words)) ⌝ }
+    requires { ⌜ (3 ≤ length (now next)) × (reportedSize ≤ length (now words)) ⌝ }
     ensures { λ r. ⌜ StepStored step (now (next .entry)) (now (words .entry)) r (now (next .exit))
         (now (words .exit)) ⌝ }
 {
@@ -56,15 +58,17 @@ fn store_step(step: Step, next: &mut [usize], words: &mut [u32]) -> u64
             store_walk(next, walk);
             0
         }
-        Answer::Tree(tree) => {
+        Answer::Tree(read) => {
+            let tree = read.tree;
+            let loose = read.loose;
             store_walk(next, walk);
-            store_words(words, 0, tree_words(tree));
+            store_reported(words, 0, tree_words(tree), loose);
             1
         }
     }
 }
 
-// The answer is 0 for none, 1 for a tree, whose list words are stored, or a refusal.
+// The answer is 0 for none, 1 for a tree, whose list words and report are stored, or a refusal.
 // Unless refused, place, number and trees left of the next walk are stored.
 #[no_mangle]
 pub extern "C" fn tt_walk(
@@ -86,7 +90,7 @@ pub extern "C" fn tt_walk(
     if next.len() < 3 {
         return TOO_SHORT;
     }
-    if words.len() < TREE_WORDS {
+    if words.len() < REPORTED_WORDS {
         return TOO_SHORT;
     }
     let walk = Walk {
@@ -114,21 +118,26 @@ fn store_span(words: &mut [u32], span: Span)
     words[LEN_AT] = span.len;
 }
 
+// A span's words and its report.
+const LAST_WORDS: usize = SPAN_WORDS + 1;
+
 fn store_last(last: LastSpan, words: &mut [u32]) -> u64
-    requires { ⌜ spanSize ≤ length (now words) ⌝ }
+    requires { ⌜ lastSize ≤ length (now words) ⌝ }
     ensures { λ r. ⌜ LastStored last (now (words .entry)) r (now (words .exit)) ⌝ }
 {
     match last {
         LastSpan::Refused(refusal) => refused_code(refusal),
         LastSpan::None => 0,
-        LastSpan::Span(span) => {
+        LastSpan::Span(last) => {
+            let span = last.span;
             store_span(words, span);
+            words[SPAN_WORDS] = bit(last.loose);
             1
         }
     }
 }
 
-// The answer is as for a step; the words of a span are stored.
+// The answer is as for a step; the words of a span and its report are stored.
 #[no_mangle]
 pub extern "C" fn tt_last_span(
     b: &[u8],
@@ -143,7 +152,7 @@ pub extern "C" fn tt_last_span(
     ensures { λ r. ⌜ LastReplied (now (b .entry)) trees (now (parts .entry)) (now (symbols .entry))
         (record { place = place; number = number; left = left }) (now (words .entry)) r (now (words .exit)) ⌝ }
 {
-    if words.len() < SPAN_WORDS {
+    if words.len() < LAST_WORDS {
         return TOO_SHORT;
     }
     let walk = Walk {

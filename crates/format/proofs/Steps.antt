@@ -6,6 +6,8 @@ use lib.ListN.{length, getD, take, drop}
 use Rattle.format.specs.Verdict.{Verdict, passed, eachFrom}
 use Rattle.format.specs.Reader.{Answer, done, none, one, two, refused}
 use Rattle.format.specs.Word.{wordAt, halfAt}
+use Rattle.format.specs.Write.{spanBytes}
+use Rattle.format.specs.Loose.{looseFrom, looseAt, looseAfter, looseBy}
 use Rattle.format.specs.Span.{spanAt, symbolAt}
 use Rattle.format.specs.Nest.{around, nestFrom, stillOpen}
 use Rattle.format.specs.Tree.{treeAt, afterSpan, controlled}
@@ -16,7 +18,7 @@ use Rattle.format.specs.LastSpan.{lastFor, lastSpan}
 use Rattle.format.specs.Tables.{treeWords}
 use Rattle.format.specs.Buffer.{judge, wordShape, ownReader, bufferCheck}
 use Rattle.format.specs.Bundle.{Bundle, bundle, badBundle, records, bundleAt, checkOf, numberOf}
-use Rattle.format.specs.Lister.{digitsFor, refusalLine, header, sortWord, treeLine, treeLines, bundleText, listerText}
+use Rattle.format.specs.Lister.{digitsFor, refusalLine, header, sortWord, treeLine, treeLines, bufferLoose, bundleText, listerText}
 use Rattle.format.proofs.Samples.{threeParts, fourParts, hundredSymbols, tenBytes}
 
 -- an Invisible root around `+`, empty parentheses, `+`, `+`
@@ -131,9 +133,9 @@ bundle-passes : bufferCheck plusBuffer 2 threeParts [] ≡ passed
 unfolding check eachFrom placeOf nestFrom stillOpen ownReader judge treeWords treeAt afterSpan controlled spanAt wordAt
 bundle-passes = refl
 
--- "trees 2 bytes 38 parts 3 symbols 0", "0 0 1 subtree", "1 33 2 punct"
+-- "trees 2 bytes 38 parts 3 symbols 0 loose 0", "0 0 1 subtree", "1 33 2 punct"
 abbrev headerLine : List ℕ
-headerLine = 116 ∷ 114 ∷ 101 ∷ 101 ∷ 115 ∷ 32 ∷ 50 ∷ 32 ∷ 98 ∷ 121 ∷ 116 ∷ 101 ∷ 115 ∷ 32 ∷ 51 ∷ 56 ∷ 32 ∷ 112 ∷ 97 ∷ 114 ∷ 116 ∷ 115 ∷ 32 ∷ 51 ∷ 32 ∷ 115 ∷ 121 ∷ 109 ∷ 98 ∷ 111 ∷ 108 ∷ 115 ∷ 32 ∷ 48 ∷ 10 ∷ []
+headerLine = 116 ∷ 114 ∷ 101 ∷ 101 ∷ 115 ∷ 32 ∷ 50 ∷ 32 ∷ 98 ∷ 121 ∷ 116 ∷ 101 ∷ 115 ∷ 32 ∷ 51 ∷ 56 ∷ 32 ∷ 112 ∷ 97 ∷ 114 ∷ 116 ∷ 115 ∷ 32 ∷ 51 ∷ 32 ∷ 115 ∷ 121 ∷ 109 ∷ 98 ∷ 111 ∷ 108 ∷ 115 ∷ 32 ∷ 48 ∷ 32 ∷ 108 ∷ 111 ∷ 111 ∷ 115 ∷ 101 ∷ 32 ∷ 48 ∷ 10 ∷ []
 
 abbrev rootLine : List ℕ
 rootLine = 48 ∷ 32 ∷ 48 ∷ 32 ∷ 49 ∷ 32 ∷ 115 ∷ 117 ∷ 98 ∷ 116 ∷ 114 ∷ 101 ∷ 101 ∷ 10 ∷ []
@@ -141,9 +143,13 @@ rootLine = 48 ∷ 32 ∷ 48 ∷ 32 ∷ 49 ∷ 32 ∷ 115 ∷ 117 ∷ 98 ∷ 116 
 abbrev plusLine : List ℕ
 plusLine = 49 ∷ 32 ∷ 51 ∷ 51 ∷ 32 ∷ 50 ∷ 32 ∷ 112 ∷ 117 ∷ 110 ∷ 99 ∷ 116 ∷ 10 ∷ []
 
-header-text : header 2 38 3 0 ≡ headerLine
+header-text : header 2 38 3 0 0 ≡ headerLine
 unfolding digitsFor
 header-text = refl
+
+none-loose : bufferLoose plusBuffer 2 threeParts [] ≡ 0
+unfolding bufferLoose looseFrom looseAt looseAfter placeOf ownReader judge treeWords treeAt afterSpan controlled spanBytes spanAt wordAt
+none-loose = refl
 
 root-text : treeLine wordShape sortWord (ownReader plusBuffer 2 threeParts []) 0 ≡ rootLine
 unfolding treeLine digitsFor around placeOf ownReader judge treeWords treeAt afterSpan controlled spanAt wordAt
@@ -158,6 +164,7 @@ unfolding treeLines
 lister-text =
     ap (λ r. bundleText r (checkOf r)) bundle-read
     ∙ ap (bundleText (bundle (record { parts = threeParts; symbols = []; trees = 2; bytes = plusBuffer }))) bundle-passes
+    ∙ ap (λ k. header 2 38 3 0 k ++ (treeLine wordShape sortWord (ownReader plusBuffer 2 threeParts []) 0 ++ (treeLine wordShape sortWord (ownReader plusBuffer 2 threeParts []) 1 ++ []))) none-loose
     ∙ (λ i. header-text i ++ (root-text i ++ (plus-text i ++ [])))
 
 -- an ident and a literal three deep

@@ -1,12 +1,13 @@
 -- `last_span` of the trees that a walk has left.
 use Prim.Native.Nat.{ℕ, zero, suc, _+_}
-use mathlib.Core.Bool.{_&&_}
+use mathlib.Core.Bool.{Bool, _&&_}
 use mathlib.Core.List.{List}
 use lib.ListN.{take, drop}
 use lib.Dec.{ltb}
 use Rattle.format.specs.Test.{if_then_else_}
 use Rattle.format.specs.Reader.{Shape, Reader, Answer, done, none, one, two, refused}
 use Rattle.format.specs.Walk.{Walk, advance, skip, walkStep}
+use Rattle.format.specs.Loose.{Loose, looseAt, reportedShape, reported}
 use Rattle.format.specs.Width.{spanSize, openAt, closeAt}
 use Rattle.format.specs.Buffer.{wordShape, ownReader}
 
@@ -46,3 +47,20 @@ spanAnswer (two v w) = none
 -- a span's words, or none, or a refusal
 abbrev pub lastSpan : List ℕ → ℕ → List ℕ → List ℕ → Walk → Answer (List ℕ)
 lastSpan b k parts symbols w = spanAnswer (lastTree wordShape (ownReader b k parts symbols) w)
+
+-- ---- with its report
+
+-- of the span that is handed back: a leaf's own, an empty subtree's close
+abbrev pub endLoose : List ℕ × Loose → Bool
+endLoose t = if wordShape .isSub (t .0) then t .1 .closing else t .1 .opening
+
+abbrev pub spanReported : Answer (List ℕ × Loose) → Answer (List ℕ × Bool)
+spanReported (one t) = one (endSpan (t .0), endLoose t)
+spanReported (refused r n) = refused r n
+spanReported none = none
+spanReported done = none
+spanReported (two t u) = none
+
+-- "Everything that reads a span passes this on"
+abbrev pub lastReported : List ℕ → ℕ → List ℕ → List ℕ → Walk → Answer (List ℕ × Bool)
+lastReported b k parts symbols w = spanReported (lastTree (reportedShape wordShape) (reported (looseAt b) (ownReader b k parts symbols)) w)

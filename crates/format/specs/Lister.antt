@@ -6,6 +6,7 @@ use lib.Dec.{ltb, eqb}
 use Rattle.format.specs.Test.{if_then_else_}
 use Rattle.format.specs.Verdict.{Verdict, passed, refused}
 use Rattle.format.specs.Reader.{Shape, Reader}
+use Rattle.format.specs.Loose.{looseBelow}
 use Rattle.format.specs.Nest.{around}
 use Rattle.format.specs.Check.{listing, placeOf}
 use Rattle.format.specs.Tables.{partCount}
@@ -27,7 +28,7 @@ gap = 32 ∷ []
 abbrev pub newline : List ℕ
 newline = 10 ∷ []
 
--- "trees ", " bytes ", " parts ", " symbols "
+-- "trees ", " bytes ", " parts ", " symbols ", " loose "
 abbrev pub treesText : List ℕ
 treesText = 116 ∷ 114 ∷ 101 ∷ 101 ∷ 115 ∷ 32 ∷ []
 
@@ -39,6 +40,9 @@ partsText = 32 ∷ 112 ∷ 97 ∷ 114 ∷ 116 ∷ 115 ∷ 32 ∷ []
 
 abbrev pub symbolsText : List ℕ
 symbolsText = 32 ∷ 115 ∷ 121 ∷ 109 ∷ 98 ∷ 111 ∷ 108 ∷ 115 ∷ 32 ∷ []
+
+abbrev pub looseText : List ℕ
+looseText = 32 ∷ 108 ∷ 111 ∷ 111 ∷ 115 ∷ 101 ∷ 32 ∷ []
 
 -- "punct", "ident", "literal", "subtree", by word 0 of a tree
 abbrev pub sortText : ℕ → List ℕ
@@ -59,10 +63,10 @@ atText = 32 ∷ 97 ∷ 116 ∷ 32 ∷ []
 abbrev pub refusalLine : ℕ → ℕ → List ℕ
 refusalLine r n = refusedText ++ decimal r ++ atText ++ decimal n ++ newline
 
--- "Header", by the number of trees, bytes, parts and symbols
-abbrev pub header : ℕ → ℕ → ℕ → ℕ → List ℕ
-header trees bytes parts symbols =
-    treesText ++ decimal trees ++ bytesText ++ decimal bytes ++ partsText ++ decimal parts ++ symbolsText ++ decimal symbols ++ newline
+-- "Header", by the number of trees, bytes, parts and symbols; "The lister's header gains ` loose K`"
+abbrev pub header : ℕ → ℕ → ℕ → ℕ → ℕ → List ℕ
+header trees bytes parts symbols loose =
+    treesText ++ decimal trees ++ bytesText ++ decimal bytes ++ partsText ++ decimal parts ++ symbolsText ++ decimal symbols ++ looseText ++ decimal loose ++ newline
 
 -- "then tree number, first byte, depth, sort", the sort by word 0 of the tree
 abbrev pub line : ℕ → ℕ → ℕ → ℕ → List ℕ
@@ -90,10 +94,15 @@ sortWord w = getD w 0 0
 abbrev pub bufferLines : List ℕ → ℕ → List ℕ → List ℕ → List ℕ
 bufferLines b k parts symbols = treeLines wordShape sortWord (ownReader b k parts symbols) k 0
 
+-- the loose spans that are stored below the root of a buffer
+unfoldable pub bufferLoose : List ℕ → ℕ → List ℕ → List ℕ → ℕ
+bufferLoose b k parts symbols = looseBelow b (placeOf wordShape (ownReader b k parts symbols)) k
+
 abbrev pub bundleText : BundleRead → Verdict → List ℕ
 bundleText r (refused x n) = refusalLine x n
 bundleText (bundle B) passed =
-    header (B .trees) (length (B .bytes)) (partCount (B .parts) (B .symbols)) (length (B .symbols)) ++ bufferLines (B .bytes) (B .trees) (B .parts) (B .symbols)
+    header (B .trees) (length (B .bytes)) (partCount (B .parts) (B .symbols)) (length (B .symbols)) (bufferLoose (B .bytes) (B .trees) (B .parts) (B .symbols))
+    ++ bufferLines (B .bytes) (B .trees) (B .parts) (B .symbols)
 -- no bad bundle is passed
 bundleText badBundle passed = refusalLine 1 0
 

@@ -1,5 +1,5 @@
 -- The lister's text needs the numbers of parts and symbols, and no entry.
-use Prim.Native.Nat.{ℕ, zero, suc, _+_, _/_, _%_, _≤_}
+use Prim.Native.Nat.{ℕ, zero, suc, _+_, _-_, _/_, _%_, _≤_}
 use mathlib.Core.Bool.{Bool, true, false, _&&_}
 use mathlib.Core.Path.{_≡_, refl, sym, ap, _∙_}
 use mathlib.Core.List.{List, _++_}
@@ -17,7 +17,8 @@ use Rattle.format.specs.Width.{partSize}
 use Rattle.format.specs.Tables.{rules, rowEight, limits, treeWords, ownMode, ownTables, countRules, tablesSized}
 use Rattle.format.specs.Buffer.{formed, judge, wordShape, rawShape, ownReader, sizeReader, bufferCheck}
 use Rattle.format.specs.Bundle.{Bundle, bundle, bundleAt, checkOf}
-use Rattle.format.specs.Lister.{header, sortWord, treeLine, treeLines, bufferLines, bundleText, listerText}
+use Rattle.format.specs.Loose.{looseAt, looseFrom}
+use Rattle.format.specs.Lister.{header, sortWord, treeLine, treeLines, bufferLines, bufferLoose, bundleText, listerText}
 use Rattle.format.proofs.Each.{and-left, and-right}
 use Rattle.format.proofs.Sight.{place-same, sub-same, end-same, Alike}
 use Rattle.format.proofs.RawReader.{raw-alike, mode-telling}
@@ -25,7 +26,7 @@ use Rattle.format.proofs.Own.{own-sound}
 use Rattle.format.proofs.BundleLaw.{sizesOf, bundle-by-sizes}
 use Rattle.bundle.proofs.Told.{Holds}
 use Rattle.bundle.specs.declared.read.Contents.{Contents}
-use Rattle.lister.specs.BySizes.{sortOf, sizeLines, orRefusal, sizesText}
+use Rattle.lister.specs.BySizes.{sortOf, sizeLines, sizeLoose, sizeListing, orRefusal, sizesText}
 
 -- ---- readers that show the same have the same subtrees around each tree
 
@@ -55,6 +56,13 @@ module _ {Tree Tree′ : Type 0} (S : Shape Tree) (R : Reader Tree) (S′ : Shap
     unfolding treeLines
     lines-same zero n = refl
     lines-same (suc j) n = let l = line-same n in let r = lines-same j (n + 1) in rw (l, r)
+
+-- ---- the report on a tree is that of the bytes where it begins
+
+loose-same : (b : List ℕ) (f g : ℕ → ℕ) → ((n : ℕ) → f n ≡ g n) → (j n : ℕ) → looseFrom b f j n ≡ looseFrom b g j n
+unfolding looseFrom
+loose-same b f g e zero n = refl
+loose-same b f g e (suc j) n = let h = e n in let r = loose-same b f g e j (n + 1) in rw (h, r)
 
 -- ---- the sort of a tree, by its words and by itself
 
@@ -99,6 +107,12 @@ module _ (b : List ℕ) (k : ℕ) (parts symbols : List ℕ) where
     unfolding sizeLines
     lines-by-sizes = lines-same wordShape (ownReader b k parts symbols) rawShape (sizeReader b k (length parts / partSize) (length symbols)) alike sortWord sortOf sort-same k 0
 
+    loose-by-sizes : bufferLoose b k parts symbols ≡ sizeLoose b k (length parts / partSize) (length symbols)
+    unfolding bufferLoose sizeLoose
+    loose-by-sizes =
+        loose-same b (placeOf wordShape (ownReader b k parts symbols)) (placeOf rawShape (sizeReader b k (length parts / partSize) (length symbols)))
+        (place-same wordShape (ownReader b k parts symbols) rawShape (sizeReader b k (length parts / partSize) (length symbols)) alike) (k - 1) 1
+
   -- a table that the check passes has whole parts
   whole-parts : bufferCheck b k parts symbols ≡ passed → length parts % partSize ≡ 0
   unfolding ownReader
@@ -113,13 +127,14 @@ same-text s s′ k k′ p p′ y y′ e f g h = rw (e, f, g, h)
 
 module _ (B : Bundle) where
   abbrev lines : List ℕ
-  lines =
-      header (B .trees) (length (B .bytes)) (length (B .parts) / partSize) (length (B .symbols)) ++ sizeLines (B .bytes) (B .trees) (length (B .parts) / partSize) (length (B .symbols))
+  lines = sizeListing (B .bytes) (B .trees) (length (B .parts) / partSize) (length (B .symbols))
 
   text-of : (v : Verdict) → bufferCheck (B .bytes) (B .trees) (B .parts) (B .symbols) ≡ v → bundleText (bundle B) v ≡ orRefusal v lines
   text-of passed e =
-      ap (λ x. header (B .trees) (length (B .bytes)) (length (B .parts) / partSize) (length (B .symbols)) ++ x)
-      (lines-by-sizes (B .bytes) (B .trees) (B .parts) (B .symbols) (whole-parts (B .bytes) (B .trees) (B .parts) (B .symbols) e))
+      let w = whole-parts (B .bytes) (B .trees) (B .parts) (B .symbols) e in
+      let x = loose-by-sizes (B .bytes) (B .trees) (B .parts) (B .symbols) w in
+      let l = lines-by-sizes (B .bytes) (B .trees) (B .parts) (B .symbols) w in
+      rw (x, l)
   text-of (refused r n) e = refl
 
 pub bundle-text : (b : List ℕ) (x : Contents) (B : Bundle) → Holds b x B → length b ≤ 65536 → listerText b ≡ sizesText (drop (x .start) b) (x .trees) (x .parts) (x .symbols)

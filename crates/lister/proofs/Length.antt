@@ -15,15 +15,16 @@ use Rattle.format.specs.Tree.{Raw}
 use Rattle.format.specs.Check.{check, placeOf, listing, Admitted}
 use Rattle.format.specs.Tables.{countRules, tablesSized}
 use Rattle.format.specs.Buffer.{rawShape, sizeReader}
-use Rattle.format.specs.Lister.{decimal, gap, newline, treesText, bytesText, partsText, symbolsText, refusedText, atText, sortText, header, refusalLine, line, depthOf, treeLine, treeLines}
+use Rattle.format.specs.Lister.{decimal, gap, newline, treesText, bytesText, partsText, symbolsText, looseText, refusedText, atText, sortText, header, refusalLine, line, depthOf, treeLine, treeLines}
 use Rattle.format.proofs.Each.{and-left, and-right, and₃}
 use Rattle.format.proofs.CursorRun.{around-up}
 use Rattle.format.proofs.CheckLaw.{check-sound}
 use Rattle.format.proofs.TreeBounds.{Ended, tree-ended}
 use Rattle.format.proofs.Reading.{each-clean}
 use Rattle.text.proofs.Decimal.{decimal-few}
-use Rattle.lister.specs.BySizes.{sortOf, sizeLines}
+use Rattle.lister.specs.BySizes.{sortOf, sizeLines, sizeLoose, sizeListing}
 use Rattle.lister.proofs.Listed.{lines-more}
+use Rattle.lister.proofs.Counted.{loose-few}
 
 -- ---- one line
 
@@ -39,8 +40,9 @@ sort-few x = go _ _ _ refl refl refl
 length-8 : (a b c d e f g h : List ℕ) → length (a ++ b ++ c ++ d ++ e ++ f ++ g ++ h) ≡ length a + length b + length c + length d + length e + length f + length g + length h
 length-8 a b c d e f g h = simp length-append
 
-length-9 : (a b c d e f g h i : List ℕ) → length (a ++ b ++ c ++ d ++ e ++ f ++ g ++ h ++ i) ≡ length a + length b + length c + length d + length e + length f + length g + length h + length i
-length-9 a b c d e f g h i = simp length-append
+length-11 : (a b c d e f g h i j k : List ℕ) → length (a ++ b ++ c ++ d ++ e ++ f ++ g ++ h ++ i ++ j ++ k)
+    ≡ length a + length b + length c + length d + length e + length f + length g + length h + length i + length j + length k
+length-11 a b c d e f g h i j k = simp length-append
 
 length-5 : (a b c d e : List ℕ) → length (a ++ b ++ c ++ d ++ e) ≡ length a + length b + length c + length d + length e
 length-5 a b c d e = simp length-append
@@ -61,13 +63,14 @@ refusal-few x n h₁ h₂ =
     let a₂ = decimal-few 9 n (omega arith) in
     omega arith
 
-header-few : (k n p y : ℕ) → k < 10000000 → n < 100000 → p < 10000000 → y < 10000000 → length (header k n p y) ≤ 64
-header-few k n p y h₁ h₂ h₃ h₄ =
-    let e = length-9 treesText (decimal k) bytesText (decimal n) partsText (decimal p) symbolsText (decimal y) newline in
+header-few : (k n p y x : ℕ) → k < 10000000 → n < 100000 → p < 10000000 → y < 10000000 → x < 10000 → length (header k n p y x) ≤ 75
+header-few k n p y x h₁ h₂ h₃ h₄ h₅ =
+    let e = length-11 treesText (decimal k) bytesText (decimal n) partsText (decimal p) symbolsText (decimal y) looseText (decimal x) newline in
     let a₁ = decimal-few 6 k h₁ in
     let a₂ = decimal-few 4 n h₂ in
     let a₃ = decimal-few 6 p h₃ in
     let a₄ = decimal-few 6 y h₄ in
+    let a₅ = decimal-few 3 x h₅ in
     omega arith
 
 -- ---- all lines
@@ -125,15 +128,17 @@ module _ (b : List ℕ) (k parts symbols : ℕ) (ok : check rawShape (sizeReader
       let u = and-right (leb 1 k) (leb k 1048576) (and-left (leb 1 k && leb k 1048576) (tablesSized parts symbols) s) in
       (leb-true k 1048576 u, leb-true parts 2097152 (t .1), leb-true symbols 1048576 (t .2))
 
-  pub passed-few : length (header k (length b) parts symbols ++ sizeLines b k parts symbols) ≤ 327744
+  pub passed-few : length (sizeListing b k parts symbols) ≤ 327755
   unfolding sizeLines
   passed-few =
-      let e = length-append (header k (length b) parts symbols) (treeLines rawShape sortOf R k 0) in
+      let x = sizeLoose b k parts symbols in
+      let e = length-append (header k (length b) parts symbols x) (treeLines rawShape sortOf R k 0) in
       let c = sizes-few in
       let c₁ = c .0 in
       let c₂ = c .1 in
       let c₃ = c .2 in
-      let h = header-few k (length b) parts symbols (omega arith) (omega arith) (omega arith) (omega arith) in
+      let l = loose-few b k parts symbols ok in
+      let h = header-few k (length b) parts symbols x (omega arith) (omega arith) (omega arith) (omega arith) (omega arith) in
       let s = short k (omega arith) in
       let t = s .bytes in
       let u = s .text in

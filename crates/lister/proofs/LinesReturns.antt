@@ -2,7 +2,7 @@
 use Prim.Native.Nat.{ℕ}
 use mathlib.Core.Path.{_≡_, sym, subst}
 use mathlib.Core.List.{List, [], _∷_, _++_, append-assoc}
-use Rattle.format.specs.Lister.{decimal, gap, newline, treesText, bytesText, partsText, symbolsText, refusedText, atText, sortText, header, refusalLine, line}
+use Rattle.format.specs.Lister.{decimal, gap, newline, treesText, bytesText, partsText, symbolsText, looseText, refusedText, atText, sortText, header, refusalLine, line}
 use Rattle.text.specs.Typed.{Typed}
 use Rattle.text.proofs.Typed.{next-inside, typed-then, typed-as}
 use Rattle.tree.specs.Raw.{rawOf}
@@ -49,8 +49,11 @@ pub ruleset sort-cases = (sort-punct, sort-ident, sort-literal, sort-subtree)
 flat-8 : (a b c d e f g h : List ℕ) → (a ++ b) ++ (c ++ d) ++ (e ++ f) ++ (g ++ h) ≡ a ++ b ++ c ++ d ++ e ++ f ++ g ++ h
 flat-8 a b c d e f g h = simp append-assoc
 
-flat-9 : (a b c d e f g h i : List ℕ) → (a ++ b) ++ (c ++ d) ++ (e ++ f ++ g ++ h ++ i) ≡ a ++ b ++ c ++ d ++ e ++ f ++ g ++ h ++ i
-flat-9 a b c d e f g h i = simp append-assoc
+flat-11 : (a b c d e f g h i j k : List ℕ) → (a ++ b) ++ (c ++ d) ++ (e ++ f ++ g ++ h ++ i ++ j ++ k) ≡ a ++ b ++ c ++ d ++ e ++ f ++ g ++ h ++ i ++ j ++ k
+flat-11 a b c d e f g h i j k = simp append-assoc
+
+flat-7 : (a b c d e f g : List ℕ) → (a ++ b) ++ (c ++ d) ++ (e ++ f) ++ g ≡ a ++ b ++ c ++ d ++ e ++ f ++ g
+flat-7 a b c d e f g = simp append-assoc
 
 flat-5 : (a b c d e : List ℕ) → (a ++ b) ++ (c ++ d) ++ e ≡ a ++ b ++ c ++ d ++ e
 flat-5 a b c d e = simp append-assoc
@@ -68,20 +71,21 @@ module _ (b b₁ b₂ b₃ b₄ : List ℕ) (at r₁ r₂ r₃ r₄ : ℕ) where
       typed-as b b₄ at r₄ _ _ (flat-8 (decimal n) gap (decimal first) gap (decimal depth) gap (sortText s) newline)
       (four (decimal n ++ gap) (decimal first ++ gap) (decimal depth ++ gap) (sortText s ++ newline) t₁ t₂ t₃ t₄)
 
+  pub tables-put : (p y x : ℕ) → Typed b at (partsText ++ decimal p) r₁ b₁ → Typed b₁ r₁ (symbolsText ++ decimal y) r₂ b₂ → Typed b₂ r₂ (looseText ++ decimal x) r₃ b₃
+      → Typed b₃ r₃ newline r₄ b₄ → Typed b at (tablesText p y x) r₄ b₄
+  tables-put p y x t₁ t₂ t₃ t₄ =
+      typed-as b b₄ at r₄ _ _ (flat-7 partsText (decimal p) symbolsText (decimal y) looseText (decimal x) newline)
+      (four (partsText ++ decimal p) (symbolsText ++ decimal y) (looseText ++ decimal x) newline t₁ t₂ t₃ t₄)
+
 module _ (b b₁ b₂ b₃ : List ℕ) (at r₁ r₂ r₃ : ℕ) where
   three : (v₁ v₂ v₃ : List ℕ) → Typed b at v₁ r₁ b₁ → Typed b₁ r₁ v₂ r₂ b₂ → Typed b₂ r₂ v₃ r₃ b₃ → Typed b at (v₁ ++ v₂ ++ v₃) r₃ b₃
   three v₁ v₂ v₃ t₁ t₂ t₃ = typed-then b b₂ at r₂ (v₁ ++ v₂) (typed-then b b₁ at r₁ v₁ t₁ b₂ r₂ v₂ t₂) b₃ r₃ v₃ t₃
 
-  pub tables-put : (p y : ℕ) → Typed b at (partsText ++ decimal p) r₁ b₁ → Typed b₁ r₁ (symbolsText ++ decimal y) r₂ b₂ → Typed b₂ r₂ newline r₃ b₃
-      → Typed b at (tablesText p y) r₃ b₃
-  tables-put p y t₁ t₂ t₃ =
-      typed-as b b₃ at r₃ _ _ (flat-5 partsText (decimal p) symbolsText (decimal y) newline) (three (partsText ++ decimal p) (symbolsText ++ decimal y) newline t₁ t₂ t₃)
-
-  pub header-put : (k n p y : ℕ) → Typed b at (treesText ++ decimal k) r₁ b₁ → Typed b₁ r₁ (bytesText ++ decimal n) r₂ b₂ → Typed b₂ r₂ (tablesText p y) r₃ b₃
-      → Typed b at (header k n p y) r₃ b₃
-  header-put k n p y t₁ t₂ t₃ =
-      typed-as b b₃ at r₃ _ _ (flat-9 treesText (decimal k) bytesText (decimal n) partsText (decimal p) symbolsText (decimal y) newline)
-      (three (treesText ++ decimal k) (bytesText ++ decimal n) (tablesText p y) t₁ t₂ t₃)
+  pub header-put : (k n p y x : ℕ) → Typed b at (treesText ++ decimal k) r₁ b₁ → Typed b₁ r₁ (bytesText ++ decimal n) r₂ b₂ → Typed b₂ r₂ (tablesText p y x) r₃ b₃
+      → Typed b at (header k n p y x) r₃ b₃
+  header-put k n p y x t₁ t₂ t₃ =
+      typed-as b b₃ at r₃ _ _ (flat-11 treesText (decimal k) bytesText (decimal n) partsText (decimal p) symbolsText (decimal y) looseText (decimal x) newline)
+      (three (treesText ++ decimal k) (bytesText ++ decimal n) (tablesText p y x) t₁ t₂ t₃)
 
   pub refusal-put : (x n : ℕ) → Typed b at (refusedText ++ decimal x) r₁ b₁ → Typed b₁ r₁ (atText ++ decimal n) r₂ b₂ → Typed b₂ r₂ newline r₃ b₃
       → Typed b at (refusalLine x n) r₃ b₃

@@ -3,9 +3,11 @@ use Prim.Native.Nat.{ℕ, _+_, _-_, _≤_, _<_}
 use mathlib.Core.Path.{_≡_, sym, ap, _∙_, subst}
 use mathlib.Core.List.{List, _++_}
 use native.Mathlib.Omega.{arith}
-use borrow.Author.Tests.{lt-ltb, le-ltb}
+use borrow.Author.Tests.{lt-ltb, le-ltb, eq-eqb, ne-eqb}
+use lib.Dec.{eqb}
 use lib.ListN.{length, take, drop}
 use lib.Seq.{length-take-le}
+use Rattle.format.specs.Test.{if_then_else_}
 use Rattle.format.specs.Verdict as format
 use Rattle.format.specs.Tree.{Raw}
 use Rattle.format.specs.Nest.{stillOpen}
@@ -27,10 +29,11 @@ use Rattle.bundle.specs.declared.read.Contents.{Contents}
 use Rattle.bundle.specs.declared.read.BundleRead.{BundleRead}
 use Rattle.bundle.specs.declared.read.BundleRead.the-variants.{Bundle, Bad}
 use Rattle.bundle.proofs.Told.{rest-of, told, is-bad, start-inside}
-use Rattle.lister.specs.BySizes.{sortOf, sizeLines, orRefusal, sizesText}
+use Rattle.lister.specs.BySizes.{sortOf, sizeLines, sizeLoose, sizeListing, orRefusal, sizesText}
 use Rattle.lister.specs.Ends.{Closed, push, Opens, Pushed, Follows}
 use Rattle.lister.specs.TreePut.{TreePut}
 use Rattle.lister.proofs.Listed.{listed-none, listed-inside, listed-kept, listed-few, listed-all, listed-bad, listed-follows, listed-next}
+use Rattle.lister.proofs.Counted.{counted-none, counted-fits, counted-bad, counted-next, counted-all}
 use Rattle.lister.proofs.Length.{refusal-few, passed-few}
 use Rattle.lister.proofs.BySizes.{bundle-text}
 
@@ -66,6 +69,16 @@ pub ruleset tree-cases = (tree-few, tree-less, tree-opens, tree-put)
 
 pub ruleset lines-cases = (listed-none, listed-inside, listed-kept, listed-few, listed-all, listed-bad, listed-follows, listed-next)
 
+-- ---- below_root, loose_below
+
+pub root-none : (n spans : ℕ) → n ≡ 0 → 0 ≡ (if eqb n 0 then 0 else spans)
+root-none n spans e = simp (eq-eqb n 0 e)
+
+pub below-all : (n spans : ℕ) → (n ≡ 0 → ⊥) → spans ≡ (if eqb n 0 then 0 else spans)
+below-all n spans h = simp (ne-eqb n 0 h)
+
+pub ruleset loose-cases = (root-none, below-all, counted-none, counted-fits, counted-bad, counted-next, counted-all)
+
 -- ---- list_buffer
 
 module _ (b : List ℕ) (k p y : ℕ) (z : Verdict) (e : z ≡ verdictAnswer (check rawShape (sizeReader b k p y))) where
@@ -74,36 +87,36 @@ module _ (b : List ℕ) (k p y : ℕ) (z : Verdict) (e : z ≡ verdictAnswer (ch
     unfolding sizesText
     refused-is =
         let v = answer-refused (check rawShape (sizeReader b k p y)) x (sym e ∙ q) in
-        ap (λ i. refusalLine i t) f ∙ ap (refusalLine (x .number)) g ∙ sym (ap (λ w. orRefusal w (header k (length b) p y ++ sizeLines b k p y)) v)
+        ap (λ i. refusalLine i t) f ∙ ap (refusalLine (x .number)) g ∙ sym (ap (λ w. orRefusal w (sizeListing b k p y)) v)
 
     pub buffer-refused : (o o′ : List ℕ) (at r : ℕ) → Typed o at (refusalLine m t) r o′ → Typed o at (sizesText b k p y) r o′
     buffer-refused o o′ at r u = typed-as o o′ at r _ _ refused-is u
 
-    pub refused-short : m < 4294967296 → t < 4294967296 → length (sizesText b k p y) ≤ 327744
+    pub refused-short : m < 4294967296 → t < 4294967296 → length (sizesText b k p y) ≤ 327755
     refused-short i j = let l = refusal-few m t i j in let d = ap length refused-is in omega arith
 
   module _ (q : z ≡ Passed) where
     pub buffer-passes : check rawShape (sizeReader b k p y) ≡ format.passed
     buffer-passes = answer-passed (check rawShape (sizeReader b k p y)) (sym e ∙ q)
 
-    passed-is : header k (length b) p y ++ sizeLines b k p y ≡ sizesText b k p y
+    passed-is : sizeListing b k p y ≡ sizesText b k p y
     unfolding sizesText
-    passed-is = sym (ap (λ w. orRefusal w (header k (length b) p y ++ sizeLines b k p y)) buffer-passes)
+    passed-is = sym (ap (λ w. orRefusal w (sizeListing b k p y)) buffer-passes)
 
-    pub buffer-passed : (m : ℕ) (o o₁ o₂ : List ℕ) (at r₁ r₂ : ℕ) → m ≡ k → Typed o at (header m (length b) p y) r₁ o₁ → Typed o₁ r₁ (sizeLines b k p y) r₂ o₂
-        → Typed o at (sizesText b k p y) r₂ o₂
-    buffer-passed m o o₁ o₂ at r₁ r₂ f u v =
-        let w = typed-as o o₁ at r₁ _ _ (ap (λ i. header i (length b) p y) f) u in
-        typed-as o o₂ at r₂ _ _ passed-is (typed-then o o₁ at r₁ (header k (length b) p y) w o₂ r₂ (sizeLines b k p y) v)
+    pub buffer-passed : (m x : ℕ) (o o₁ o₂ : List ℕ) (at r₁ r₂ : ℕ) → m ≡ k → x ≡ sizeLoose b k p y → Typed o at (header m (length b) p y x) r₁ o₁
+        → Typed o₁ r₁ (sizeLines b k p y) r₂ o₂ → Typed o at (sizesText b k p y) r₂ o₂
+    buffer-passed m x o o₁ o₂ at r₁ r₂ f g u v =
+        let w = typed-as o o₁ at r₁ _ _ (ap (λ i. header i (length b) p y x) f ∙ ap (header k (length b) p y) g) u in
+        typed-as o o₂ at r₂ _ _ passed-is (typed-then o o₁ at r₁ (header k (length b) p y (sizeLoose b k p y)) w o₂ r₂ (sizeLines b k p y) v)
 
-    pub passed-short : length b ≤ 65536 → length (sizesText b k p y) ≤ 327744
+    pub passed-short : length b ≤ 65536 → length (sizesText b k p y) ≤ 327755
     passed-short h = let l = passed-few b k p y buffer-passes h in let d = ap length passed-is in omega arith
 
 pub ruleset buffer-cases = (buffer-refused, refused-short, buffer-passes, buffer-passed, passed-short, next-inside)
 
 -- ---- list_bundle
 
-one-short : length (refusalLine 1 0) ≤ 327744
+one-short : length (refusalLine 1 0) ≤ 327755
 one-short = let l = refusal-few 1 0 (omega arith) (omega arith) in omega arith
 
 module _ (b : List ℕ) where
@@ -114,8 +127,8 @@ module _ (b : List ℕ) where
     pub over-text : (o o′ : List ℕ) (at r : ℕ) → Typed o at (refusalLine 1 0) r o′ → Typed o at (listerText b) r o′
     over-text o o′ at r u = typed-as o o′ at r _ _ over-is u
 
-    pub over-short : length (listerText b) ≤ 327744
-    over-short = subst (λ (x : List ℕ). length x ≤ 327744) over-is one-short
+    pub over-short : length (listerText b) ≤ 327755
+    over-short = subst (λ (x : List ℕ). length x ≤ 327755) over-is one-short
 
   module _ (h : length b ≤ 65536) (r : BundleRead) (e : r ≡ readAnswer b (bundleAt b)) where
     module _ (q : r ≡ Bad) where
@@ -128,8 +141,8 @@ module _ (b : List ℕ) where
       pub bad-text : (o o′ : List ℕ) (at n : ℕ) → Typed o at (refusalLine 1 0) n o′ → Typed o at (listerText b) n o′
       bad-text o o′ at n u = typed-as o o′ at n _ _ bad-is u
 
-      pub bad-short : length (listerText b) ≤ 327744
-      bad-short = subst (λ (x : List ℕ). length x ≤ 327744) bad-is one-short
+      pub bad-short : length (listerText b) ≤ 327755
+      bad-short = subst (λ (x : List ℕ). length x ≤ 327755) bad-is one-short
 
     module _ (x : Contents) (q : r ≡ Bundle x) where
       abbrev bytes : List ℕ
@@ -143,8 +156,8 @@ module _ (b : List ℕ) where
       pub bundle-listed : (o o′ : List ℕ) (at n : ℕ) → Typed o at (sizesText bytes (x .trees) (x .parts) (x .symbols)) n o′ → Typed o at (listerText b) n o′
       bundle-listed o o′ at n u = typed-as o o′ at n _ _ text-is u
 
-      pub bundle-short : length (sizesText bytes (x .trees) (x .parts) (x .symbols)) ≤ 327744 → length (listerText b) ≤ 327744
-      bundle-short l = subst (λ (z : List ℕ). length z ≤ 327744) text-is l
+      pub bundle-short : length (sizesText bytes (x .trees) (x .parts) (x .symbols)) ≤ 327755 → length (listerText b) ≤ 327755
+      bundle-short l = subst (λ (z : List ℕ). length z ≤ 327755) text-is l
 
 pub ruleset list-cases = (over-text, over-short, bad-text, bad-short, start-inside, bundle-listed, bundle-short)
 
@@ -153,7 +166,7 @@ pub ruleset list-cases = (over-text, over-short, bad-text, bad-short, start-insi
 pub all-counts : (b b′ vs : List ℕ) (r : ℕ) → Typed b 0 vs r b′ → Counts r b′
 all-counts b b′ vs r t = let h = next-inside b b′ 0 r vs t in (h, sym (length-take-le r b′ h))
 
-pub all-whole : (b b′ vs : List ℕ) (r : ℕ) → Typed b 0 vs r b′ → length vs ≤ 327744 → 327744 ≤ length b → take r b′ ≡ vs
+pub all-whole : (b b′ vs : List ℕ) (r : ℕ) → Typed b 0 vs r b′ → length vs ≤ 327755 → 327755 ≤ length b → take r b′ ≡ vs
 all-whole b b′ vs r t h k = typed-whole b b′ vs r t (omega arith)
 
 pub ruleset all-cases = (all-counts, all-whole)

@@ -44,7 +44,7 @@ lines-more S sort R (suc j) m =
     ap (λ x. treeLine S sort R m ++ x) (lines-more S sort R j (m + 1)) ∙ sym (append-assoc (treeLine S sort R m) (treeLines S sort R j (m + 1)) (treeLine S sort R (m + 1 + j)))
     ∙ ap (λ x. treeLine S sort R m ++ treeLines S sort R j (m + 1) ++ treeLine S sort R x) e
 
-got-bad : {A : Type 0} (t : Raw) (n k r : ℕ) → got t n k ≡ bad r → A
+pub got-bad : {A : Type 0} (t : Raw) (n k r : ℕ) → got t n k ≡ bad r → A
 got-bad t n k r e = let z : _≡_ {A = ℕ} 0 1 = cc in absurd (omega arith)
 
 module _ (b : List ℕ) (k parts symbols : ℕ) where

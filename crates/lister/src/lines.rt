@@ -62,13 +62,14 @@ fn put_count(out: &mut [u8], at: usize, label: &[u8], n: usize) -> usize
 }
 
 // The second half of the header.
-fn put_tables(out: &mut [u8], at: usize, parts: usize, symbols: usize) -> usize
+fn put_tables(out: &mut [u8], at: usize, parts: usize, symbols: usize, loose: usize) -> usize
     requires { ⌜ at ≤ length (now out) ⌝ }
-    ensures { λ r. ⌜ Typed (now (out .entry)) at (tablesText parts symbols) r (now (out .exit)) ⌝ }
+    ensures { λ r. ⌜ Typed (now (out .entry)) at (tablesText parts symbols loose) r (now (out .exit)) ⌝ }
 {
     let after_parts = put_count(out, at, b" parts ", parts);
     let after_symbols = put_count(out, after_parts, b" symbols ", symbols);
-    put_char(out, after_symbols, NEWLINE)
+    let after_loose = put_count(out, after_symbols, b" loose ", loose);
+    put_char(out, after_loose, NEWLINE)
 }
 
 pub(crate) fn put_header(
@@ -78,13 +79,14 @@ pub(crate) fn put_header(
     bytes: usize,
     parts: usize,
     symbols: usize,
+    loose: usize,
 ) -> usize
     requires { ⌜ at ≤ length (now out) ⌝ }
-    ensures { λ r. ⌜ Typed (now (out .entry)) at (header trees bytes parts symbols) r (now (out .exit)) ⌝ }
+    ensures { λ r. ⌜ Typed (now (out .entry)) at (header trees bytes parts symbols loose) r (now (out .exit)) ⌝ }
 {
     let after_trees = put_count(out, at, b"trees ", trees);
     let after_bytes = put_count(out, after_trees, b" bytes ", bytes);
-    put_tables(out, after_bytes, parts, symbols)
+    put_tables(out, after_bytes, parts, symbols, loose)
 }
 
 pub(crate) fn put_refusal(out: &mut [u8], at: usize, number: usize, tree: usize) -> usize

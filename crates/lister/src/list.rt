@@ -5,6 +5,7 @@ use crate::depth::still_open;
 use crate::lines::put_header;
 use crate::lines::put_line;
 use crate::lines::put_refusal;
+use crate::loose::loose_below;
 use bundle::read::BundleRead;
 use bundle::read::read_bundle;
 use checker::check::check;
@@ -92,7 +93,7 @@ fn list_buffer(out: &mut [u8], b: &[u8], trees: u32, parts: usize, symbols: usiz
     requires { ⌜ length (now b) ≤ 65536 ⌝ }
     ensures text { λ r. ⌜ Typed (now (out .entry)) 0 (sizesText (now (b .entry)) trees parts symbols)
         r (now (out .exit)) ⌝ }
-    ensures fits { λ _. ⌜ length (sizesText (now (b .entry)) trees parts symbols) ≤ 327744 ⌝ }
+    ensures fits { λ _. ⌜ length (sizesText (now (b .entry)) trees parts symbols) ≤ 327755 ⌝ }
 {
     let verdict = check(b, trees, parts, symbols);
     match verdict {
@@ -103,16 +104,17 @@ fn list_buffer(out: &mut [u8], b: &[u8], trees: u32, parts: usize, symbols: usiz
             place(refusal.tree),
         ),
         Verdict::Passed => {
-            let next = put_header(out, 0, place(trees), b.len(), parts, symbols);
+            let loose = loose_below(b, trees, parts, symbols);
+            let next = put_header(out, 0, place(trees), b.len(), parts, symbols, loose);
             put_lines(out, next, b, trees, parts, symbols)
         }
     }
 }
 
-// As much of the text as the run has room for; 327,744 bytes are always enough.
+// As much of the text as the run has room for; 327,755 bytes are always enough.
 pub(crate) fn list_bundle(out: &mut [u8], b: &[u8]) -> usize
     ensures text { λ r. ⌜ Typed (now (out .entry)) 0 (listerText (now (b .entry))) r (now (out .exit)) ⌝ }
-    ensures fits { λ _. ⌜ length (listerText (now (b .entry))) ≤ 327744 ⌝ }
+    ensures fits { λ _. ⌜ length (listerText (now (b .entry))) ≤ 327755 ⌝ }
 {
     if MOST < b.len() {
         return put_refusal(out, 0, 1, 0);

@@ -9,16 +9,17 @@ ghost use Rattle.format.specs.Lister.{listerText};
 mod depth;
 mod lines;
 mod list;
+mod loose;
 
 // One byte more than is taken, so that more is seen.
 const INPUT: usize = 65537;
 
 // No text is longer: five bytes for each byte taken, and the header.
-const TEXT: usize = 327744;
+const TEXT: usize = 327755;
 
 // The whole text of an input, at the front of a run that it always fits.
 fn list_all(b: &[u8], text: &mut [u8]) -> usize
-    requires { ⌜ 327744 ≤ length (now text) ⌝ }
+    requires { ⌜ 327755 ≤ length (now text) ⌝ }
     ensures { λ r. ⌜ take r (now (text .exit)) ≡ listerText (now (b .entry)) ⌝ }
     ensures { λ r. ⌜ Counts r (now (text .exit)) ⌝ }
 {

@@ -15,7 +15,7 @@ use Rattle.format.specs.Cursor.{tokenTree, bumpOrEnd, cursorStep}
 use Rattle.format.specs.Buffer.{wordShape, ownReader}
 use Rattle.tree.specs.Types.{treeWordsOf}
 use Rattle.tree.specs.declared.refusal.Refusal.{Refusal}
-use Rattle.tree.specs.declared.types.TokenTree.{TokenTree}
+use Rattle.tree.specs.declared.loose.ReportedTree.{ReportedTree}
 use Rattle.walk.specs.Source.{answerWords}
 use Rattle.cursor.specs.Open.{opened, cursorOf}
 use Rattle.cursor.specs.Plan.{answerOf}
@@ -83,7 +83,7 @@ module _ (b parts symbols : List ℕ) (k : ℕ) (c : At) (ns cs ps : List ℕ) (
     unfolding answerWords answerOf
     look-none g r p = p ∙ sym (look-told ∙ ap (λ (y : Answer). told s (answerWords (answerOf y))) g)
 
-    pub look-tree : (t : TokenTree) → a ≡ answers.Tree t → (x : ℕ) → x ≡ plus s (treeWordsOf t) → (r : Round) → r ≡ goesOn x
+    pub look-tree : (t : ReportedTree) → a ≡ answers.Tree t → (x : ℕ) → x ≡ plus s (treeWordsOf (t .tree)) → (r : Round) → r ≡ goesOn x
         → r ≡ looked R k (cursorOf c ns cs ps) s
     unfolding answerWords answerOf
     look-tree t g x q r p = p ∙ ap goesOn q ∙ sym (look-told ∙ ap (λ (y : Answer). told s (answerWords (answerOf y))) g)
@@ -106,7 +106,7 @@ module _ (s : ℕ) (a : Answer) where
   unfolding answerWords answerOf moved
   step-none g r p = p ∙ sym (ap (λ (y : Answer). moved s (answerWords (answerOf y))) g)
 
-  pub step-tree : (t : TokenTree) → a ≡ answers.Tree t → (r : Round) → r ≡ goesOn s → r ≡ moved s (answerWords (answerOf a))
+  pub step-tree : (t : ReportedTree) → a ≡ answers.Tree t → (r : Round) → r ≡ goesOn s → r ≡ moved s (answerWords (answerOf a))
   unfolding answerWords answerOf moved
   step-tree t g r p = p ∙ sym (ap (λ (y : Answer). moved s (answerWords (answerOf y))) g)
 

@@ -13,6 +13,7 @@ use Rattle.format.specs.Buffer.{wordShape, ownReader}
 use Rattle.tree.specs.Types.{treeWordsOf}
 use Rattle.tree.specs.Plain.{spanSum}
 use Rattle.tree.specs.declared.refusal.Refusal.{Refusal}
+use Rattle.tree.specs.declared.loose.ReportedTree.{ReportedTree}
 use Rattle.tree.specs.declared.types.TokenTree.{TokenTree}
 use Rattle.walk.specs.Source.{answerWords}
 use Rattle.walk.specs.Walk.{walkOf, answerOf, Stepped}
@@ -60,10 +61,10 @@ module _ (b parts symbols : List ℕ) (k : ℕ) (call : WalkCall) (w : Walk) (s 
     unfolding answerWords answerOf
     sum-refused f q x g = g ∙ sym (stepped (refused (f .number) (f .tree)) (rw q))
 
-    pub sum-on : (t : TokenTree) → r .answer ≡ answers.Tree t → (x : ℕ) → x ≡ plus s (treeWordsOf t)
+    pub sum-on : (t : ReportedTree) → r .answer ≡ answers.Tree t → (x : ℕ) → x ≡ plus s (treeWordsOf (t .tree))
         → total ≡ walkSum (ownReader b k parts symbols) call (k - (n + 1)) (walkOf (r .walk)) x
     unfolding answerWords answerOf
-    sum-on t q x g = stepped (one (treeWordsOf t)) (rw q) ∙ ap (walkSum (ownReader b k parts symbols) call (k - (n + 1)) (walkOf (r .walk))) (sym g)
+    sum-on t q x g = stepped (one (treeWordsOf (t .tree))) (rw q) ∙ ap (walkSum (ownReader b k parts symbols) call (k - (n + 1)) (walkOf (r .walk))) (sym g)
 
   pub sum-over : k ≤ n → s ≡ total
   unfolding walkSum

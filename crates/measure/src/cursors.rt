@@ -83,7 +83,10 @@ fn look<'a>(
         Answer::Refused(refusal) => ends(refused_code(refusal.number)),
         Answer::Done => goes_on(sum),
         Answer::None => goes_on(sum),
-        Answer::Tree(tree) => goes_on(added(sum, tree)),
+        Answer::Tree(read) => {
+            let tree = read.tree;
+            goes_on(added(sum, tree))
+        }
     }
 }
 

@@ -23,7 +23,8 @@ pub fn walk_sum(b: &[u8], trees: u32, parts: &[u32], symbols: &[u32], from: Walk
         match answer {
             Answer::None => return sum,
             Answer::Refused(refusal) => return refused_code(refusal.number),
-            Answer::Tree(tree) => {
+            Answer::Tree(read) => {
+                let tree = read.tree;
                 sum = added(sum, tree);
                 walk = step.walk;
                 steps = steps + 1;

@@ -12,6 +12,7 @@ use Rattle.format.specs.Span.{Span}
 use Rattle.format.specs.Write.{heavyBytes, spanBytes, symbolBytes}
 use Rattle.format.specs.Pack.{spanForm}
 use Rattle.format.proofs.WriteSize.{heavy-size}
+use Rattle.format.proofs.LooseLaw.{extra-length}
 use Rattle.pack.specs.Answer.{allBelow}
 
 module _ (x : ℕ) (s : Span) where
@@ -36,13 +37,7 @@ module _ (x : ℕ) (s : Span) where
       go false false e f = inr (inr (large-size e f))
 
   pub span-length : length (spanBytes x s) ≡ length (spanBytes 0 s)
-  unfolding spanBytes heavyBytes
-  span-length = go _ _ refl refl
-    where
-      go : (y z : Bool) → allBelow s 16 131072 256 ≡ y → allBelow s 32768 134217728 262144 ≡ z → length (spanBytes x s) ≡ length (spanBytes 0 s)
-      go true z e f = simp e
-      go false true e f = simp (e, f)
-      go false false e f = simp (e, f)
+  span-length = extra-length s x
 
 pub form-length : (heavy : Bool) (x : ℕ) (s : Span) → length (spanForm heavy x s) ≡ length (spanForm heavy 0 s)
 form-length true x s = heavy-size x s ∙ sym (heavy-size 0 s)

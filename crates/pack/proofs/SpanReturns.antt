@@ -1,16 +1,26 @@
--- One law for each return of `all_below`, `decode_span`, with premises as the code's tests and calls give them.
+-- One law for each return of `all_below`, `span_at`, `is_loose`, `decode_span`, with premises as the code's tests and calls give them.
 use Prim.Native.Nat.{ℕ, _+_, _-_, _/_, _%_, _<_, _≤_}
-use mathlib.Core.Bool.{true, false}
-use mathlib.Core.Path.{_≡_}
+use mathlib.Core.Bool.{Bool, true, false}
+use mathlib.Core.Path.{_≡_, sym, ap, _∙_}
 use mathlib.Core.List.{List}
 use native.Mathlib.Omega.{arith}
 use borrow.Author.Tests.{lt-ltb, le-ltb, le-leb, lt-leb, eq-eqb, ne-eqb}
+use lib.Dec.{ltb}
 use lib.ListN.{length}
 use Rattle.format.specs.Word.{wordAt}
 use Rattle.format.specs.Span.{Span, spanAt, span₁, span₂, span₃}
-use Rattle.pack.specs.Answer.{spanAnswer, spanHere, allBelow}
+use Rattle.format.specs.Write.{spanBytes}
+use Rattle.format.specs.Pack.{spanForm}
+use Rattle.format.specs.Loose.{isLoose}
+use Rattle.format.proofs.LooseLaw.{loose-bytes}
+use Rattle.pack.specs.Answer.{spanOf, spanAnswer, decodedAnswer, spanHere, allBelow}
 use Rattle.pack.specs.declared.span.SpanAt.{SpanAt}
+use Rattle.pack.specs.declared.span.SpanRead.{SpanRead}
+use Rattle.pack.specs.declared.span.SpanRead.the-variants as spans
 use Rattle.pack.specs.declared.span.SpanRead.the-variants.{Read, Short}
+use Rattle.pack.specs.declared.span.SpanDecoded.the-variants as decodeds
+use Rattle.pack.proofs.Sizes.{form-least}
+use Rattle.pack.proofs.Use.{span-cut, span-read, span-after}
 
 module _ (s : Span) (i t l : ℕ) where
   pub above-1 : i ≤ s .index → false ≡ allBelow s i t l
@@ -71,4 +81,37 @@ module _ (b : List ℕ) (at r : ℕ) (e : r ≡ length b - at) where
               let k₃ : at + 12 ≤ length b = omega arith in
               simp (q, le-leb _ _ k, ← e₁, ne-eqb _ _ x, le-leb _ _ k₂, ← e₂, ne-eqb _ _ z, le-leb _ _ k₃, ← e₃)
 
-pub ruleset decode-span-cases = (short-1, got-1, short-2, got-2, short-3, got-3)
+pub ruleset span-at-cases = (short-1, got-1, short-2, got-2, short-3, got-3)
+
+-- ---- more bytes than needed
+
+module _ (s : Span) (n : ℕ) where
+  pub loose-least : n ≤ 4 → false ≡ ltb (length (spanBytes 0 s)) n
+  loose-least h = let k = form-least false 0 s in sym (le-ltb (length (spanBytes 0 s)) n (omega arith))
+
+  module _ (z : ℕ) (e : z ≡ length (spanForm false 0 s)) where
+    pub loose-fits : n ≤ z → false ≡ ltb (length (spanBytes 0 s)) n
+    loose-fits h = sym (le-ltb (length (spanBytes 0 s)) n (omega arith))
+
+    pub loose-over : z < n → true ≡ ltb (length (spanBytes 0 s)) n
+    loose-over h = sym (lt-ltb (length (spanBytes 0 s)) n (omega arith))
+
+module _ (b : List ℕ) (at : ℕ) (r : SpanRead) (e : r ≡ spanAnswer (spanAt b at)) where
+  pub decoded-short : r ≡ spans.Short → decodeds.Short ≡ decodedAnswer at (spanAt b at)
+  unfolding decodedAnswer
+  decoded-short k = sym (ap (decodedAnswer at) (span-cut b at r e k))
+
+  module _ (y : SpanAt) (k : r ≡ spans.Read y) where
+    pub decoded-before : at ≤ y .next
+    decoded-before = let h = span-after b at r e y k in omega arith
+
+    pub decoded-read : (x : Bool) → x ≡ ltb (length (spanBytes 0 (spanOf (y .span)))) (y .next - at)
+        → decodeds.Read (record { span = y .span; extra = y .extra; next = y .next; loose = x }) ≡ decodedAnswer at (spanAt b at)
+    unfolding decodedAnswer
+    decoded-read x f =
+        let h = span-after b at r e y k in
+        let g : x ≡ isLoose at (spanOf (y .span)) (y .next) = f ∙ loose-bytes (spanOf (y .span)) at (y .next) (omega arith) in
+        ap (λ (u : Bool). decodeds.Read (record { span = y .span; extra = y .extra; next = y .next; loose = u })) g
+        ∙ sym (ap (decodedAnswer at) (span-read b at r e y k))
+
+pub ruleset decode-span-cases = (loose-least, loose-fits, loose-over, decoded-short, decoded-before, decoded-read)

@@ -6,12 +6,12 @@ use crate::unchecked::word_at;
 ghost use mathlib.Core.Path.{_≡_};
 ghost use Prim.Native.Nat.{_+_, _≤_, _<_};
 ghost use lib.ListN.{length};
-ghost use lib.Dec.{leb};
+ghost use lib.Dec.{ltb, leb};
 ghost use Rattle.format.specs.Word.{wordBytes};
 ghost use Rattle.format.specs.Span.{span₁, span₂, span₃, spanAt};
-ghost use Rattle.format.specs.Write.{firstWord, secondWord, heavySecond, heavyThird, heavyBytes};
+ghost use Rattle.format.specs.Write.{firstWord, secondWord, heavySecond, heavyThird, heavyBytes, spanBytes};
 ghost use Rattle.format.specs.Pack.{spanForm};
-ghost use Rattle.pack.specs.Answer.{spanOf, spanHere, spanAnswer, allBelow};
+ghost use Rattle.pack.specs.Answer.{spanOf, spanHere, spanAnswer, decodedAnswer, allBelow};
 ghost use Rattle.pack.specs.Packing.{extendedBytes, Stored, SpanPacked};
 
 // A span as it is packed: the index of its part, its start and its length.
@@ -31,6 +31,19 @@ pub struct SpanAt {
 pub enum SpanRead {
     Read(SpanAt),
     // The buffer ends inside the span.
+    Short,
+}
+
+// The same, and whether a form of fewer bytes holds the span.
+pub struct DecodedSpan {
+    pub span: PackedSpan,
+    pub extra: u32,
+    pub next: usize,
+    pub loose: bool,
+}
+
+pub enum SpanDecoded {
+    Read(DecodedSpan),
     Short,
 }
 
@@ -76,8 +89,9 @@ fn from_three(w: u32, v: u32, u: u32, next: usize) -> SpanAt
     }
 }
 
-// The span at a place, and the place behind it.
-pub fn decode_span(b: &[u8], at: usize) -> SpanRead
+// The span at a place, and the place behind it. What is loose is asked by itself (`is_loose`): a reader of trees that
+// does not use the answer does not pay for it.
+pub fn span_at(b: &[u8], at: usize) -> SpanRead
     ensures { λ r. ⌜ r ≡ spanAnswer (spanAt (now (b .entry)) at) ⌝ }
 {
     let left = room(b.len(), at);
@@ -146,6 +160,36 @@ pub fn span_size(span: PackedSpan, heavy: bool) -> usize
         return 8;
     }
     12
+}
+
+// Whether so many bytes are more than the span's packed form has.
+pub fn is_loose(span: PackedSpan, bytes: usize) -> bool
+    ensures { λ r. ⌜ r ≡ ltb (length (spanBytes 0 (spanOf span))) bytes ⌝ }
+{
+    // No form has fewer bytes than four.
+    if bytes <= 4 {
+        return false;
+    }
+    if bytes <= span_size(span, false) {
+        return false;
+    }
+    true
+}
+
+// The span at a place, the place behind it, and whether it is loose.
+pub fn decode_span(b: &[u8], at: usize) -> SpanDecoded
+    ensures { λ r. ⌜ r ≡ decodedAnswer at (spanAt (now (b .entry)) at) ⌝ }
+{
+    let SpanRead::Read(here) = span_at(b, at) else {
+        return SpanDecoded::Short;
+    };
+    let span = here.span;
+    SpanDecoded::Read(DecodedSpan {
+        span: span,
+        extra: here.extra,
+        next: here.next,
+        loose: is_loose(span, here.next - at),
+    })
 }
 
 fn first_word(extra: u32, extend: u32, span: PackedSpan) -> u32

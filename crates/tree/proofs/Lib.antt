@@ -1,5 +1,6 @@
 pub mod Answers
 pub mod RawAgain
+pub mod LooseReturns
 pub mod FieldsReturns
 pub mod KindsReturns
 pub mod RangedReturns

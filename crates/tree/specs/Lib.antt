@@ -1,3 +1,4 @@
+pub mod Loose
 pub mod Raw
 pub mod Types
 pub mod Mode

@@ -3,6 +3,7 @@ pub mod fields;
 pub mod kinds;
 pub mod limits;
 pub mod listed;
+pub mod loose;
 pub mod plain;
 pub mod ranged;
 pub mod raw;

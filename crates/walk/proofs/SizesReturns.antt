@@ -11,7 +11,7 @@ use Rattle.format.proofs.Each.{and-left, and-right}
 use Rattle.tree.specs.Mode.{limitsOf, modeOf, Whole}
 use Rattle.tree.specs.declared.limits.Limits.{Limits}
 use Rattle.tree.proofs.OwnMode.{pairOf, own-whole, own-mode}
-use Rattle.walk.specs.Source.{treesSized, sizes, treeReaderIn}
+use Rattle.walk.specs.Source.{treesSized, sizes, treeReaderIn, reportReaderIn}
 
 module _ (k : ℕ) (parts symbols : List ℕ) (t : Bool) (e : t ≡ treesSized k) where
   pub sized-trees : not t ≡ true → false ≡ sizes k parts symbols
@@ -24,8 +24,8 @@ pub ruleset sized-cases = (sized-trees, sized-tables)
 
 -- ---- what row 1 leaves: the tables are those of a mode
 
-pub mode-sized : (b : List ℕ) (k : ℕ) (N : Limits) (parts pair symbols : List ℕ) → treesSized k ≡ true → treeReaderIn b k (modeOf N parts pair symbols) .sized ≡ true
-unfolding treeReaderIn
+pub mode-sized : (b : List ℕ) (k : ℕ) (N : Limits) (parts pair symbols : List ℕ) → treesSized k ≡ true → reportReaderIn b k (modeOf N parts pair symbols) .sized ≡ true
+unfolding reportReaderIn treeReaderIn
 mode-sized b k N parts pair symbols s = simp s
 
 module _ (k : ℕ) (parts symbols : List ℕ) (s : Bool) (e : s ≡ sizes k parts symbols) (h : not s ≡ false) where

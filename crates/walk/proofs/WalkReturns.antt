@@ -17,6 +17,9 @@ use Rattle.format.proofs.Each.{and-right}
 use Rattle.format.proofs.TreeBounds.{Ended, tree-ended}
 use Rattle.format.proofs.Reading.{clean}
 use Rattle.format.specs.Width.{partSize}
+use Rattle.format.specs.Loose.{Loose, looseAt, beside}
+use Rattle.tree.specs.Loose.{looseOf}
+use Rattle.tree.specs.declared.loose.Loose as looses
 use Rattle.tree.specs.Types.{resolved, treeWordsOf}
 use Rattle.tree.specs.Mode.{limitsOf, modeOf}
 use Rattle.tree.specs.declared.limits.Limits.{Limits}
@@ -31,7 +34,7 @@ use Rattle.decode.specs.declared.decode.TreeAt.{TreeAt}
 use Rattle.decode.specs.declared.decode.TreeRead.{TreeRead}
 use Rattle.decode.specs.declared.decode.TreeRead.the-variants as reads
 use Rattle.decode.proofs.DecodeUse.{decoded-got, decoded-refused}
-use Rattle.walk.specs.Source.{treesSized, sizes, treeShape, treeReaderIn, treeReader}
+use Rattle.walk.specs.Source.{treesSized, sizes, treeShape, treeReaderIn, reportShape, reportReaderIn}
 use Rattle.walk.specs.Walk.{walkOf, answerOf, stepOf, Stepped, Within, ReadAt, Begins, passed, passedOver, callOf}
 use Rattle.walk.specs.declared.walk.Walk.{Walk}
 use Rattle.walk.specs.declared.walk.Answer.the-variants.{Tree, None, Refused}
@@ -40,7 +43,7 @@ use Rattle.walk.specs.declared.walk.Begun.{Begun}
 use Rattle.walk.specs.declared.walk.Begun.the-variants as begun
 use Rattle.tree.proofs.OwnMode.{pairOf}
 use Rattle.walk.proofs.SizesReturns.{mode-sized, sizes-trees, sizes-whole, sizes-mode}
-use Rattle.walk.proofs.WalkWords.{inWords, reads-decoded, walk-words}
+use Rattle.walk.proofs.WalkWords.{inWords, inReport, reads-decoded, walk-words, walk-report}
 
 -- a tree that is read ends in the buffer
 decoded-inside : (b : List ℕ) (M : Mode) (n at : ℕ) (y : TreeAt) → readIn b M n at ≡ got (y .tree) (y .next) (y .children .0) → y .next ≤ length b
@@ -60,10 +63,10 @@ module _ (w : Walk) where
   unfolding answerOf
   none-is = refl
 
-  pub onward-is : (t : TokenTree) (j p : ℕ) → stepOf (record { answer = Tree t; walk = record { place = p; number = w .number + j; left = w .left - j } })
-      ≡ (one t, record { place = p; number = w .number + j; left = w .left - j })
+  pub onward-is : (t : TokenTree) (x : looses.Loose) (j p : ℕ) → stepOf (record { answer = Tree (record { tree = t; loose = x }); walk = record { place = p; number = w .number + j; left = w .left - j } })
+      ≡ (one (t, looseOf x), record { place = p; number = w .number + j; left = w .left - j })
   unfolding answerOf
-  onward-is t j p = refl
+  onward-is t x j p = refl
 
 -- ---- row 10
 
@@ -84,21 +87,21 @@ module _ (b : List ℕ) (k : ℕ) (w : Walk) where
 
 -- ---- what both steps begin with
 
-module _ (R : Reader TokenTree) (w : steps.Walk) (call : WalkCall) (s : R .sized ≡ true) where
-  not-fitting : walkFits treeShape R w ≡ false → (refused 10 0, w) ≡ walkStep treeShape R call w
+module _ (R : Reader (TokenTree × Loose)) (w : steps.Walk) (call : WalkCall) (s : R .sized ≡ true) where
+  not-fitting : walkFits reportShape R w ≡ false → (refused 10 0, w) ≡ walkStep reportShape R call w
   unfolding walkStep
   not-fitting f = simp (s, f)
 
-  module _ (f : walkFits treeShape R w ≡ true) where
-    none-left : w .left ≡ 0 → (none, w) ≡ walkStep treeShape R call w
+  module _ (f : walkFits reportShape R w ≡ true) where
+    none-left : w .left ≡ 0 → (none, w) ≡ walkStep reportShape R call w
     unfolding walkStep
     none-left l = simp (s, f, eq-eqb _ _ l)
 
-    some-left : (w .left ≡ 0 → ⊥) → walkStep treeShape R call w ≡ walkRead treeShape R call w (R .read (w .number) (w .place))
+    some-left : (w .left ≡ 0 → ⊥) → walkStep reportShape R call w ≡ walkRead reportShape R call w (R .read (w .number) (w .place))
     unfolding walkStep
     some-left l = simp (s, f, ne-eqb _ _ l)
 
-read-refused : (R : Reader TokenTree) (w : steps.Walk) (call : WalkCall) (i : ℕ) → walkRead treeShape R call w (bad i) ≡ (refused i (w .number), w)
+read-refused : (R : Reader (TokenTree × Loose)) (w : steps.Walk) (call : WalkCall) (i : ℕ) → walkRead reportShape R call w (bad i) ≡ (refused i (w .number), w)
 read-refused R w advance i = refl
 read-refused R w skip i = refl
 
@@ -106,19 +109,19 @@ module _ (b parts pair symbols : List ℕ) (k : ℕ) (N : Limits) (w : Walk) (s 
   abbrev M : Mode
   M = modeOf N parts pair symbols
 
-  abbrev R : Reader TokenTree
-  R = treeReaderIn b k M
+  abbrev R : Reader (TokenTree × Loose)
+  R = reportReaderIn b k M
 
   all-sized : R .sized ≡ true
   all-sized = mode-sized b k N parts pair symbols s
 
   pub begin-10 : not x ≡ true → Begins b k M w (begun.Refused (record { number = 10; tree = 0 }))
-  unfolding Begins treeReaderIn
+  unfolding Begins reportReaderIn treeReaderIn
   begin-10 h = λ call. not-fitting R (walkOf w) call all-sized (sym e ∙ not-true x h)
 
   module _ (h₁ : not x ≡ false) where
-    fitting : walkFits treeShape R (walkOf w) ≡ true
-    unfolding treeReaderIn
+    fitting : walkFits reportShape R (walkOf w) ≡ true
+    unfolding reportReaderIn treeReaderIn
     fitting = sym e ∙ not-false x h₁
 
     trees-within : w .number + w .left ≤ 1048576
@@ -132,24 +135,24 @@ module _ (b parts pair symbols : List ℕ) (k : ℕ) (N : Limits) (w : Walk) (s 
     begin-none h = λ call. none-left R (walkOf w) call all-sized fitting h
 
     module _ (h₂ : w .left ≡ 0 → ⊥) (r : TreeRead) (f : r ≡ treeAnswer (readIn b M (w .number) (w .place))) where
-      reads-on : (call : WalkCall) (z : Reply TokenTree) → readIn b M (w .number) (w .place) ≡ z
-          → walkStep treeShape R call (walkOf w) ≡ walkRead treeShape R call (walkOf w) z
+      reads-on : (call : WalkCall) (z : Reply (TokenTree × Loose)) → beside (looseAt b (w .place)) (readIn b M (w .number) (w .place)) ≡ z
+          → walkStep reportShape R call (walkOf w) ≡ walkRead reportShape R call (walkOf w) z
       reads-on call z q =
           some-left R (walkOf w) call all-sized fitting h₂
-          ∙ ap (walkRead treeShape R call (walkOf w)) (reads-decoded b k M (w .number) (w .place) ∙ q)
+          ∙ ap (walkRead reportShape R call (walkOf w)) (reads-decoded b k M (w .number) (w .place) ∙ q)
 
       pub begin-refused : (i : ℕ) → r ≡ reads.Refused i → Begins b k M w (begun.Refused (record { number = i; tree = w .number }))
       unfolding Begins
       begin-refused i g = λ call.
           let d = decoded-refused (readIn b M (w .number) (w .place)) r f i g in
-          sym (reads-on call (bad i) d ∙ read-refused R (walkOf w) call i)
+          sym (reads-on call (bad i) (ap (beside (looseAt b (w .place))) d) ∙ read-refused R (walkOf w) call i)
 
       pub begin-got : (y : TreeAt) → r ≡ reads.Got y → Begins b k M w (begun.Read y)
       unfolding Begins
       begin-got y g =
           let d = decoded-got (readIn b M (w .number) (w .place)) r f y g in
           record {
-            step = λ call. reads-on call (got (y .tree) (y .next) (y .children .0)) d;
+            step = λ call. reads-on call (got (y .tree, looseAt b (w .place)) (y .next) (y .children .0)) (ap (beside (looseAt b (w .place))) d);
             within = record { some = omega arith; trees = trees-within; bytes = decoded-inside b M (w .number) (w .place) y d };
           }
 
@@ -167,13 +170,13 @@ pub subtree-holds : (p : Subtree) → (treeShape .isSub (trees.Subtree p) ≡ tr
 unfolding treeWordsOf
 subtree-holds p = (refl, refl)
 
-module _ (n : ℕ) (w : Walk) (y : TreeAt) (s : Step) where
-  pub past-leaf : (l : Leaf) → y .tree ≡ trees.Leaf l → stepOf s ≡ (one (y .tree), record { place = y .next; number = w .number + 1; left = w .left - 1 })
-      → stepOf s ≡ passed n (walkOf w) y
+module _ (n : ℕ) (w : Walk) (y : TreeAt) (x : Loose) (s : Step) where
+  pub past-leaf : (l : Leaf) → y .tree ≡ trees.Leaf l → stepOf s ≡ (one (y .tree, x), record { place = y .next; number = w .number + 1; left = w .left - 1 })
+      → stepOf s ≡ passed n (walkOf w) y x
   unfolding passed
   past-leaf l e q = let d : treeShape .isSub (y .tree) ≡ false = ap (treeShape .isSub) e ∙ leaf-flat l in q ∙ simp d
 
-  pub past-tree : (p : Subtree) → y .tree ≡ trees.Subtree p → stepOf s ≡ passedOver n (walkOf w) y (p .len .0) → stepOf s ≡ passed n (walkOf w) y
+  pub past-tree : (p : Subtree) → y .tree ≡ trees.Subtree p → stepOf s ≡ passedOver n (walkOf w) y x (p .len .0) → stepOf s ≡ passed n (walkOf w) y x
   unfolding passed passedOver
   past-tree p e q =
       let d : treeShape .isSub (y .tree) ≡ true = ap (treeShape .isSub) e ∙ subtree-holds p .0 in
@@ -181,20 +184,20 @@ module _ (n : ℕ) (w : Walk) (y : TreeAt) (s : Step) where
       q ∙ simp (d, c)
 
   module _ (count : ℕ) where
-    pub past-three : w .left ≤ count → stepOf s ≡ (refused 3 (w .number), walkOf w) → stepOf s ≡ passedOver n (walkOf w) y count
+    pub past-three : w .left ≤ count → stepOf s ≡ (refused 3 (w .number), walkOf w) → stepOf s ≡ passedOver n (walkOf w) y x count
     unfolding passedOver
     past-three h q = q ∙ simp (le-leb _ _ h)
 
-    module _ (h₁ : count < w .left) (x : ℕ) (f : x ≡ y .children .0) (h₂ : y .next ≤ n) where
-      pub past-nine : n - y .next < x → stepOf s ≡ (refused 9 (w .number), walkOf w) → stepOf s ≡ passedOver n (walkOf w) y count
+    module _ (h₁ : count < w .left) (z : ℕ) (f : z ≡ y .children .0) (h₂ : y .next ≤ n) where
+      pub past-nine : n - y .next < z → stepOf s ≡ (refused 9 (w .number), walkOf w) → stepOf s ≡ passedOver n (walkOf w) y x count
       unfolding passedOver
       past-nine h q =
           let d : ltb n (y .next + y .children .0) ≡ true = lt-ltb n (y .next + y .children .0) (omega arith) in
           q ∙ simp (lt-leb _ _ h₁, d)
 
-      pub past-on : x ≤ n - y .next
-          → stepOf s ≡ (one (y .tree), record { place = y .next + x; number = w .number + (1 + count); left = w .left - (1 + count) })
-          → stepOf s ≡ passedOver n (walkOf w) y count
+      pub past-on : z ≤ n - y .next
+          → stepOf s ≡ (one (y .tree, x), record { place = y .next + z; number = w .number + (1 + count); left = w .left - (1 + count) })
+          → stepOf s ≡ passedOver n (walkOf w) y x count
       unfolding passedOver
       past-on h q =
           let d : ltb n (y .next + y .children .0) ≡ false = le-ltb n (y .next + y .children .0) (omega arith) in
@@ -205,12 +208,12 @@ pub ruleset past-cases = (past-leaf, past-tree, past-three, past-nine, past-on)
 -- ---- the two steps
 
 module _ (b : List ℕ) (M : Mode) (k : ℕ) (w : Walk) (r : Begun) (e : Begins b k M w r) where
-  pub step-none : (call : WalkCall) (s : Step) → r ≡ begun.None → stepOf s ≡ (none, walkOf w) → stepOf s ≡ walkStep treeShape (treeReaderIn b k M) call (walkOf w)
+  pub step-none : (call : WalkCall) (s : Step) → r ≡ begun.None → stepOf s ≡ (none, walkOf w) → stepOf s ≡ walkStep reportShape (reportReaderIn b k M) call (walkOf w)
   unfolding Begins
   step-none call s q f = f ∙ subst (Begins b k M w) q e call
 
   pub step-refused : (call : WalkCall) (s : Step) (i : Refusal) → r ≡ begun.Refused i → stepOf s ≡ (refused (i .number) (i .tree), walkOf w)
-      → stepOf s ≡ walkStep treeShape (treeReaderIn b k M) call (walkOf w)
+      → stepOf s ≡ walkStep reportShape (reportReaderIn b k M) call (walkOf w)
   unfolding Begins
   step-refused call s i q f = f ∙ subst (Begins b k M w) q e call
 
@@ -231,30 +234,36 @@ module _ (b : List ℕ) (M : Mode) (k : ℕ) (w : Walk) (r : Begun) (e : Begins 
     pub step-left : 1 ≤ w .left
     step-left = let i = step-within .some in omega arith
 
-    pub step-on : (x : Bool) → x ≡ false → (s : Step) → stepOf s ≡ (one (y .tree), record { place = y .next; number = w .number + 1; left = w .left - 1 })
-        → stepOf s ≡ walkStep treeShape (treeReaderIn b k M) (callOf x) (walkOf w)
-    step-on x h s f = rw h (f ∙ sym (read-at .step advance))
+    pub step-on : (o : Loose) → o ≡ looseAt b (w .place) → (x : Bool) → x ≡ false → (s : Step) → stepOf s ≡ (one (y .tree, o), record { place = y .next; number = w .number + 1; left = w .left - 1 })
+        → stepOf s ≡ walkStep reportShape (reportReaderIn b k M) (callOf x) (walkOf w)
+    step-on o i x h s f =
+        rw h (f ∙ ap (λ (u : Loose). (one (y .tree, u), record { place = y .next; number = w .number + 1; left = w .left - 1 })) i ∙ sym (read-at .step advance))
 
-    pub step-past : (x : Bool) → x ≡ true → (s : Step) → stepOf s ≡ passed (length b) (walkOf w) y → stepOf s ≡ walkStep treeShape (treeReaderIn b k M) (callOf x) (walkOf w)
-    unfolding passed treeReaderIn
-    step-past x h s f = rw h (f ∙ sym (read-at .step skip))
+    pub step-past : (o : Loose) → o ≡ looseAt b (w .place) → (x : Bool) → x ≡ true → (s : Step) → stepOf s ≡ passed (length b) (walkOf w) y o → stepOf s ≡ walkStep reportShape (reportReaderIn b k M) (callOf x) (walkOf w)
+    unfolding passed reportReaderIn treeReaderIn
+    step-past o i x h s f = rw h (f ∙ ap (passed (length b) (walkOf w) y) i ∙ sym (read-at .step skip))
 
 pub ruleset step-cases = (step-none, step-refused, step-within, step-number, step-left, step-on, step-past)
 
 -- ---- document 01's mode, behind row 1
 
 module _ (b parts symbols : List ℕ) (k : ℕ) (w : Walk) (call : WalkCall) (r : Step) where
-  stepped : stepOf r ≡ walkStep treeShape (treeReader b k parts symbols) call (walkOf w) → Stepped b k parts symbols call w r
-  unfolding ownReader
-  stepped q = record { exact = q; words = ap inWords q ∙ walk-words b k (ownMode parts symbols) call (walkOf w) }
+  stepped : stepOf r ≡ walkStep reportShape (reportReaderIn b k (ownMode parts symbols)) call (walkOf w) → Stepped b k parts symbols call w r
+  unfolding reportReaderIn ownReader
+  stepped q =
+      record {
+        exact = q;
+        words = ap inWords q ∙ walk-words b k (ownMode parts symbols) call (walkOf w);
+        reports = ap inReport q ∙ walk-report b k (ownMode parts symbols) call (walkOf w);
+      }
 
   module _ (s : Bool) (e : s ≡ sizes k parts symbols) where
     pub front-1 : not s ≡ true → stepOf r ≡ (refused 1 0, walkOf w) → Stepped b k parts symbols call w r
-    unfolding walkStep treeReaderIn
+    unfolding walkStep reportReaderIn treeReaderIn
     front-1 h q = let f : sizes k parts symbols ≡ false = sym e ∙ not-true s h in stepped (q ∙ simp f)
 
     pub front-step : not s ≡ false → (N : Limits) → limitsOf N ≡ ownLimits (length parts / partSize) (length symbols)
-        → stepOf r ≡ walkStep treeShape (treeReaderIn b k (modeOf N parts (pairOf N parts) symbols)) call (walkOf w) → Stepped b k parts symbols call w r
-    front-step h N d q = stepped (q ∙ ap (λ (M : Mode). walkStep treeShape (treeReaderIn b k M) call (walkOf w)) (sizes-mode k parts symbols s e h N d))
+        → stepOf r ≡ walkStep reportShape (reportReaderIn b k (modeOf N parts (pairOf N parts) symbols)) call (walkOf w) → Stepped b k parts symbols call w r
+    front-step h N d q = stepped (q ∙ ap (λ (M : Mode). walkStep reportShape (reportReaderIn b k M) call (walkOf w)) (sizes-mode k parts symbols s e h N d))
 
 pub ruleset front-cases = (sizes-trees, sizes-whole, front-1, front-step)

@@ -11,10 +11,12 @@ use Rattle.format.specs.Walk.{WalkCall, advance, skip, walkRun, walkEnd, freshW
 use Rattle.format.specs.Plain.{sub, plainWalkRun}
 use Rattle.format.specs.Check.{listing}
 use Rattle.format.specs.Buffer.{wordShape, ownReader, bufferCheck}
-use Rattle.format.specs.LastSpan.{endSpan, lastSpan}
+use Rattle.format.specs.LastSpan.{endSpan, lastSpan, endLoose, lastReported}
+use Rattle.format.specs.Loose.{Loose, looseAt, reportedShape, reported}
 use Rattle.format.proofs.Own.{own-walk-rule, own-last-span}
-use Rattle.walk.specs.Walk.{walkOf, stepWords, Stepped}
-use Rattle.walk.specs.Last.{lastOf}
+use Rattle.format.proofs.OwnReported.{own-reported-rule, own-last-reported}
+use Rattle.walk.specs.Walk.{walkOf, stepWords, stepReport, Stepped}
+use Rattle.walk.specs.Last.{lastOf, lastWords, LastFound}
 use Rattle.walk.specs.Run.{Ran, walkAfter}
 use Rattle.walk.specs.declared.walk.Walk.{Walk}
 use Rattle.walk.specs.declared.walk.Step.{Step}
@@ -39,6 +41,16 @@ module _ (b : List ℕ) (k : ℕ) (parts symbols : List ℕ) where
       ap (λ x. stepWords s ∷ x) (ran-is cs (s .walk) ss (r .1))
       ∙ ap (λ (x : Answer (List ℕ) × steps.Walk). x ∷ walkRun wordShape O cs (x .1)) (r .0 .words)
 
+  -- … and with reports
+  pub ran-reported : (calls : List WalkCall) (w : Walk) (ss : List Step) → Ran b k parts symbols calls w ss → map stepReport ss ≡ walkRun (reportedShape wordShape) (reported (looseAt b) O) calls (walkOf w)
+  unfolding Ran walkRun
+  ran-reported [] w [] r = refl
+  ran-reported [] w (s ∷ ss) r = absurd r
+  ran-reported (c ∷ cs) w [] r = absurd r
+  ran-reported (c ∷ cs) w (s ∷ ss) r =
+      ap (λ x. stepReport s ∷ x) (ran-reported cs (s .walk) ss (r .1))
+      ∙ ap (λ (x : Answer (List ℕ × Loose) × steps.Walk). x ∷ walkRun (reportedShape wordShape) (reported (looseAt b) O) cs (x .1)) (r .0 .reports)
+
   pub ran-end : (calls : List WalkCall) (w : Walk) (ss : List Step) → Ran b k parts symbols calls w ss → walkOf (walkAfter w ss) ≡ walkEnd wordShape O calls (walkOf w)
   unfolding Ran walkAfter walkEnd
   ran-end [] w [] r = refl
@@ -54,6 +66,12 @@ module _ (b : List ℕ) (k : ℕ) (parts symbols : List ℕ) where
     pub walk-rule : map stepWords ss ≡ plainWalkRun wordShape (listing wordShape O) calls 0
     walk-rule = ran-is calls first ss ran ∙ ap (walkRun wordShape O calls) fresh ∙ own-walk-rule b k parts symbols ok .walks calls
 
+    -- with the report on each tree
+    pub report-rule : map stepReport ss ≡ plainWalkRun (reportedShape wordShape) (listing (reportedShape wordShape) (reported (looseAt b) O)) calls 0
+    report-rule =
+        ran-reported calls first ss ran ∙ ap (walkRun (reportedShape wordShape) (reported (looseAt b) O) calls) fresh
+        ∙ own-reported-rule b k parts symbols ok .walks calls
+
     -- after any calls, passing a subtree lands where reading it and its descendants singly does
     pub pass-rule : (s : Step) (singly : List Step) → walkAfter first ss .number < O .trees → sub wordShape (listing wordShape O) (walkAfter first ss .number) ≡ true
         → Stepped b k parts symbols skip (walkAfter first ss) s
@@ -67,5 +85,9 @@ module _ (b : List ℕ) (k : ℕ) (parts symbols : List ℕ) where
         ∙ sym (ran-end (replicate (1 + wordShape .count (listing wordShape O .tree (w .number))) advance) w singly r)
 
     -- the last span of the whole
-    pub last-rule : (r : LastSpan) → lastOf r ≡ lastSpan b k parts symbols (walkOf first) → lastOf r ≡ one (endSpan (listing wordShape O .tree (k - 1)))
-    last-rule r e = e ∙ ap (lastSpan b k parts symbols) fresh ∙ own-last-span b k parts symbols ok
+    pub last-rule : (r : LastSpan) → LastFound b k parts symbols first r → lastWords r ≡ one (endSpan (listing wordShape O .tree (k - 1)))
+    last-rule r e = e .words ∙ ap (lastSpan b k parts symbols) fresh ∙ own-last-span b k parts symbols ok
+
+    pub last-report-rule : (r : LastSpan) → LastFound b k parts symbols first r
+        → lastOf r ≡ one (endSpan (listing wordShape O .tree (k - 1)), endLoose (listing wordShape O .tree (k - 1), looseAt b (listing wordShape O .place (k - 1))))
+    last-report-rule r e = e .exact ∙ ap (lastReported b k parts symbols) fresh ∙ own-last-reported b k parts symbols ok

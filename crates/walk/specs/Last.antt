@@ -1,14 +1,19 @@
 -- The answers of `last_span` in document 01's numbers and values, and what its parts promise.
 use Prim.Native.Nat.{ℕ, _<_}
+use mathlib.Core.Bool.{Bool}
 use mathlib.Core.Path.{_≡_}
 use mathlib.Core.List.{List}
 use Rattle.format.specs.Reader as format
 use Rattle.format.specs.Walk as steps
 use Rattle.format.specs.Tables.{Mode, modeTables}
 use Rattle.format.specs.Buffer.{wordShape, reader}
-use Rattle.format.specs.LastSpan.{lastTree, spanAnswer}
-use Rattle.tree.specs.Types.{spanList, treeWordsOf}
-use Rattle.tree.specs.declared.types.TokenTree.{TokenTree}
+use Rattle.format.specs.LastSpan.{lastTree, lastSpan, spanReported, lastReported}
+use Rattle.format.specs.Loose.{Loose, looseAt, reportedShape, reported}
+use Rattle.format.specs.Reader.{Reader, mapped}
+use Rattle.tree.specs.Loose.{reportedOf}
+use Rattle.tree.specs.Types.{spanList}
+use Rattle.tree.specs.declared.loose.ReportedTree.{ReportedTree}
+use Rattle.walk.specs.Source.{shownReport}
 use Rattle.walk.specs.Walk.{walkOf}
 use Rattle.walk.specs.declared.walk.Walk.{Walk}
 use Rattle.walk.specs.declared.last_span.LastSpan.{LastSpan}
@@ -16,22 +21,33 @@ use Rattle.walk.specs.declared.last_span.LastSpan.the-variants.{Span, No
 use Rattle.walk.specs.declared.last_span.Last.{Last}
 use Rattle.walk.specs.declared.last_span.Last.the-variants.{Found, Of}
 
--- a span by its five words
-unfoldable pub lastOf : LastSpan → format.Answer (List ℕ)
-lastOf (Span s) = format.one (spanList s)
+-- a span by its five words, with its report
+unfoldable pub lastOf : LastSpan → format.Answer (List ℕ × Bool)
+lastOf (Span s) = format.one (spanList (s .span), s .loose)
 lastOf None = format.none
 lastOf (Refused r) = format.refused (r .number) (r .tree)
 
+-- and without
+unfoldable pub lastWords : LastSpan → format.Answer (List ℕ)
+lastWords r = mapped (λ (s : List ℕ × Bool). s .0) (lastOf r)
+
+pub record LastFound (b : List ℕ) (k : ℕ) (parts symbols : List ℕ) (w : Walk) (r : LastSpan) : Type 0 where
+  pub exact : lastOf r ≡ lastReported b k parts symbols (walkOf w)
+  pub words : lastWords r ≡ lastSpan b k parts symbols (walkOf w)
+
 -- ---- over the tables of a mode
 
--- as `lastSpan`
-unfoldable pub lastIn : List ℕ → ℕ → Mode → steps.Walk → format.Answer (List ℕ)
-lastIn b k M w = spanAnswer (lastTree wordShape (reader b k (modeTables M)) w)
+abbrev pub wordReader : List ℕ → ℕ → Mode → Reader (List ℕ × Loose)
+wordReader b k M = reported (looseAt b) (reader b k (modeTables M))
+
+-- as `lastReported`
+unfoldable pub lastIn : List ℕ → ℕ → Mode → steps.Walk → format.Answer (List ℕ × Bool)
+lastIn b k M w = spanReported (lastTree (reportedShape wordShape) (wordReader b k M) w)
 
 -- the walk has gone past tree t, and none is left
-pub record AtLast (b : List ℕ) (k : ℕ) (M : Mode) (w : Walk) (t : TokenTree) : Type 0 where
-  pub answer : steps.walkStep wordShape (reader b k (modeTables M)) steps.skip (walkOf w) .0 ≡ format.one (treeWordsOf t)
-  pub last : steps.walkStep wordShape (reader b k (modeTables M)) steps.skip (walkOf w) .1 .left ≡ 0
+pub record AtLast (b : List ℕ) (k : ℕ) (M : Mode) (w : Walk) (t : ReportedTree) : Type 0 where
+  pub answer : steps.walkStep (reportedShape wordShape) (wordReader b k M) steps.skip (walkOf w) .0 ≡ format.one (shownReport (reportedOf t))
+  pub last : steps.walkStep (reportedShape wordShape) (wordReader b k M) steps.skip (walkOf w) .1 .left ≡ 0
 
 -- what is last of w is last of v, which has fewer left
 pub record Same (b : List ℕ) (k : ℕ) (M : Mode) (w v : Walk) : Type 0 where

@@ -3,7 +3,8 @@ use Prim.Native.Nat.{ℕ}
 use mathlib.Core.Bool.{Bool, _&&_}
 use mathlib.Core.List.{List, []}
 use lib.Dec.{leb}
-use Rattle.format.specs.Reader.{Shape, Reader, Answer, done, none, one, two, refused}
+use Rattle.format.specs.Reader.{Shape, Reader, Answer, mapped}
+use Rattle.format.specs.Loose.{Loose, looseAt, reportedShape, reported}
 use Rattle.format.specs.Tables.{rules, Mode, modeTables, ownMode, ownTables}
 use Rattle.format.specs.Buffer.{wordShape, rawShape, readerAs}
 use Rattle.tree.specs.Types.{resolved, treeWordsOf}
@@ -34,10 +35,24 @@ treeReaderIn b k M = readerAs (resolved M) b k (rules (modeTables M))
 abbrev pub treeReader : List ℕ → ℕ → List ℕ → List ℕ → Reader TokenTree
 treeReader b k parts symbols = treeReaderIn b k (ownMode parts symbols)
 
+-- ---- with reports
+
+abbrev pub reportShape : Shape (TokenTree × Loose)
+reportShape = reportedShape treeShape
+
+unfoldable pub reportReaderIn : List ℕ → ℕ → Mode → Reader (TokenTree × Loose)
+reportReaderIn b k M = reported (looseAt b) (treeReaderIn b k M)
+
 -- "A tree handed back is compared by its list words."
-unfoldable pub answerWords : Answer TokenTree → Answer (List ℕ)
-answerWords done = done
-answerWords none = none
-answerWords (one t) = one (treeWordsOf t)
-answerWords (two t u) = two (treeWordsOf t) (treeWordsOf u)
-answerWords (refused r n) = refused r n
+abbrev pub shownWords : TokenTree × Loose → List ℕ
+shownWords t = treeWordsOf (t .0)
+
+abbrev pub shownReport : TokenTree × Loose → List ℕ × Loose
+shownReport t = (treeWordsOf (t .0), t .1)
+
+unfoldable pub answerWords : Answer (TokenTree × Loose) → Answer (List ℕ)
+answerWords a = mapped shownWords a
+
+-- and with its report
+unfoldable pub answerReport : Answer (TokenTree × Loose) → Answer (List ℕ × Loose)
+answerReport a = mapped shownReport a

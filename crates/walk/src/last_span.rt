@@ -5,6 +5,9 @@ use crate::walk::Walk;
 use crate::walk::walk_in;
 use tree::limits::Limits;
 use tree::limits::own_limits;
+use tree::loose::ReportedTree;
+use tree::loose::closing_loose;
+use tree::loose::opening_loose;
 use tree::refusal::Refusal;
 use tree::types::Leaf;
 use tree::types::Span;
@@ -12,16 +15,22 @@ use tree::types::TokenTree;
 use width::PART_WORDS;
 ghost use mathlib.Core.Path.{_≡_};
 ghost use mathlib.Core.Bool.{true};
-ghost use Rattle.format.specs.LastSpan.{endSpan, lastSpan};
+ghost use Rattle.format.specs.LastSpan.{endSpan};
 ghost use Rattle.tree.specs.Types.{spanList, treeWordsOf};
 ghost use Rattle.tree.specs.Mode.{modeOf, Whole};
 ghost use Rattle.tree.specs.declared.types.TokenTree.the-variants as trees;
 ghost use Rattle.walk.specs.Source.{treesSized};
 ghost use Rattle.walk.specs.Walk.{walkOf};
-ghost use Rattle.walk.specs.Last.{lastOf, lastIn, AtLast, Goes};
+ghost use Rattle.walk.specs.Last.{lastOf, lastIn, AtLast, Goes, LastFound};
+
+// A span, and whether a form of fewer bytes than those it was read from holds it.
+pub struct ReportedSpan {
+    pub span: Span,
+    pub loose: bool,
+}
 
 pub enum LastSpan {
-    Span(Span),
+    Span(ReportedSpan),
     None,
     Refused(Refusal),
 }
@@ -51,21 +60,29 @@ fn into(
     pair: &[u32],
     symbols: &[u32],
     walk: Walk,
-    tree: TokenTree,
+    last: ReportedTree,
 ) -> Last
     requires { ⌜ Whole limits (now parts) (now pair) (now symbols) ⌝ }
     requires { ⌜ treesSized trees ≡ true ⌝ }
-    requires { ⌜ AtLast (now b) trees (modeOf limits (now parts) (now pair) (now symbols)) walk tree ⌝ }
+    requires { ⌜ AtLast (now b) trees (modeOf limits (now parts) (now pair) (now symbols)) walk last ⌝ }
     ensures { λ r. ⌜ Goes (now (b .entry)) trees
         (modeOf limits (now (parts .entry)) (now (pair .entry)) (now (symbols .entry))) walk r ⌝ }
 {
+    let tree = last.tree;
+    let loose = last.loose;
     match tree {
-        TokenTree::Leaf(leaf) => Last::Found(LastSpan::Span(leaf_span(leaf))),
+        TokenTree::Leaf(leaf) => Last::Found(LastSpan::Span(ReportedSpan {
+            span: leaf_span(leaf),
+            loose: opening_loose(loose),
+        })),
         TokenTree::Subtree(subtree) => {
             let count = subtree.len;
             if count.0 == 0 {
                 let closing = subtree.closing;
-                return Last::Found(LastSpan::Span(closing));
+                return Last::Found(LastSpan::Span(ReportedSpan {
+                    span: closing,
+                    loose: closing_loose(loose),
+                }));
             }
             let step = walk_in(b, trees, limits, parts, pair, symbols, walk, false);
             let then = step.walk;
@@ -132,8 +149,7 @@ pub fn last_in(
 
 // Over a part table whose last two are the root's, row 1 first.
 pub fn last_span(b: &[u8], trees: u32, parts: &[u32], symbols: &[u32], walk: Walk) -> LastSpan
-    ensures { λ r. ⌜ lastOf r ≡ lastSpan (now (b .entry)) trees (now (parts .entry)) (now (symbols .entry))
-        (walkOf walk) ⌝ }
+    ensures { λ r. ⌜ LastFound (now (b .entry)) trees (now (parts .entry)) (now (symbols .entry)) walk r ⌝ }
 {
     if !sized(trees, parts, symbols) {
         return LastSpan::Refused(Refusal { number: 1, tree: 0 });

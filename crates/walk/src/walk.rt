@@ -3,8 +3,11 @@ use crate::sizes::sized;
 use decode::decode::TreeAt;
 use decode::decode::TreeRead;
 use decode::decode::decode_in;
+use decode::loose::loose_at;
 use tree::limits::Limits;
 use tree::limits::own_limits;
+use tree::loose::Loose;
+use tree::loose::ReportedTree;
 use tree::raw::Descendants;
 use tree::raw::place;
 use tree::refusal::Refusal;
@@ -17,8 +20,9 @@ ghost use lib.Dec.{leb};
 ghost use lib.ListN.{length};
 ghost use Rattle.format.specs.Reader.{none, one, refused};
 ghost use Rattle.format.specs.Walk.{advance, skip, walkStep};
+ghost use Rattle.tree.specs.Loose.{looseOf};
 ghost use Rattle.tree.specs.Mode.{modeOf, Whole};
-ghost use Rattle.walk.specs.Source.{treesSized, treeShape, treeReaderIn};
+ghost use Rattle.walk.specs.Source.{treesSized, reportShape, reportReaderIn};
 ghost use Rattle.walk.specs.Walk.{walkOf, stepOf, Within, Begins, passed, passedOver, callOf, Stepped};
 
 pub struct Walk {
@@ -28,7 +32,7 @@ pub struct Walk {
 }
 
 pub enum Answer {
-    Tree(TokenTree),
+    Tree(ReportedTree),
     None,
     Refused(Refusal),
 }
@@ -74,10 +78,10 @@ fn over(walk: Walk) -> Step
 }
 
 // The walk `trees` trees on.
-fn onward(walk: Walk, tree: TokenTree, trees: u32, next: usize) -> Step
+fn onward(walk: Walk, tree: TokenTree, loose: Loose, trees: u32, next: usize) -> Step
     requires { ⌜ (walk .number + trees < 4294967296) × (trees ≤ walk .left) ⌝ }
     ensures { λ r. ⌜ stepOf r ≡ (
-      one tree,
+      one (tree, looseOf loose),
       record { place = next; number = walk .number + trees; left = walk .left - trees },
     ) ⌝ }
 {
@@ -86,8 +90,12 @@ fn onward(walk: Walk, tree: TokenTree, trees: u32, next: usize) -> Step
         number: walk.number + trees,
         left: walk.left - trees,
     };
+    let reported = ReportedTree {
+        tree: tree,
+        loose: loose,
+    };
     Step {
-        answer: Answer::Tree(tree),
+        answer: Answer::Tree(reported),
         walk: then,
     }
 }
@@ -150,9 +158,10 @@ fn begin(
 }
 
 // Past a subtree: 3 if its count overruns the trees left, else 9 if its bytes overrun the buffer.
-fn past_subtree(b: &[u8], walk: Walk, here: TreeAt, count: Descendants) -> Step
+fn past_subtree(b: &[u8], walk: Walk, here: TreeAt, loose: Loose, count: Descendants) -> Step
     requires { ⌜ Within (now b) walk here ⌝ }
-    ensures { λ r. ⌜ stepOf r ≡ passedOver (length (now (b .entry))) (walkOf walk) here (count .0) ⌝ }
+    ensures { λ r. ⌜ stepOf r ≡ passedOver (length (now (b .entry))) (walkOf walk) here (looseOf loose)
+        (count .0) ⌝ }
 {
     if walk.left <= count.0 {
         return refuse(3, walk.number, walk);
@@ -163,18 +172,18 @@ fn past_subtree(b: &[u8], walk: Walk, here: TreeAt, count: Descendants) -> Step
         return refuse(9, walk.number, walk);
     }
     let tree = here.tree;
-    onward(walk, tree, 1 + count.0, here.next + bytes)
+    onward(walk, tree, loose, 1 + count.0, here.next + bytes)
 }
 
 // Past the tree that was read and all that it holds.
-fn past(b: &[u8], walk: Walk, here: TreeAt) -> Step
+fn past(b: &[u8], walk: Walk, here: TreeAt, loose: Loose) -> Step
     requires { ⌜ Within (now b) walk here ⌝ }
-    ensures { λ r. ⌜ stepOf r ≡ passed (length (now (b .entry))) (walkOf walk) here ⌝ }
+    ensures { λ r. ⌜ stepOf r ≡ passed (length (now (b .entry))) (walkOf walk) here (looseOf loose) ⌝ }
 {
     let tree = here.tree;
     match tree {
-        TokenTree::Leaf(_) => onward(walk, tree, 1, here.next),
-        TokenTree::Subtree(subtree) => past_subtree(b, walk, here, subtree.len),
+        TokenTree::Leaf(_) => onward(walk, tree, loose, 1, here.next),
+        TokenTree::Subtree(subtree) => past_subtree(b, walk, here, loose, subtree.len),
     }
 }
 
@@ -192,7 +201,7 @@ pub fn walk_in(
     requires { ⌜ Whole limits (now parts) (now pair) (now symbols) ⌝ }
     requires { ⌜ treesSized trees ≡ true ⌝ }
     ensures { λ r. ⌜
-        stepOf r ≡ walkStep treeShape (treeReaderIn (now (b .entry)) trees
+        stepOf r ≡ walkStep reportShape (reportReaderIn (now (b .entry)) trees
         (modeOf limits (now (parts .entry)) (now (pair .entry)) (now (symbols .entry)))) (callOf skip) (walkOf walk)
         ⌝ }
 {
@@ -201,11 +210,12 @@ pub fn walk_in(
         Begun::None => over(walk),
         Begun::Refused(refusal) => refuse(refusal.number, refusal.tree, walk),
         Begun::Read(here) => {
+            let loose = loose_at(b, walk.place);
             if skip {
-                return past(b, walk, here);
+                return past(b, walk, here, loose);
             }
             let tree = here.tree;
-            onward(walk, tree, 1, here.next)
+            onward(walk, tree, loose, 1, here.next)
         }
     }
 }

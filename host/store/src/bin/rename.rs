@@ -22,10 +22,10 @@ mod reader {
         ) -> u64;
     }
 
-    /// The list words of a tree, none past the last.
-    pub fn tree(stored: &Stored, number: u32) -> Option<[u32; 13]> {
+    /// The list words of a tree, then what is said of the bytes of its spans; none past the last.
+    pub fn tree(stored: &Stored, number: u32) -> Option<[u32; 16]> {
         let (bytes, parts, symbols) = (stored.bytes(), stored.parts().as_flattened(), stored.symbols());
-        let (mut at, mut words) = ([0, 0, stored.trees() as usize], [0; 13]);
+        let (mut at, mut words) = ([0, 0, stored.trees() as usize], [0; 16]);
         loop {
             let here = at[1] as u32;
             // Safe: places and lengths are those of slices and arrays that are lent until the call is over.

@@ -30,6 +30,9 @@ no-leaves-requires-2 c κs = search (needs, peeks-cases)
 returns : tie.Need-returns
 returns c = search (needs, peeks-cases)
 
+loose-at-requires : tie.Need-loose-at-requires
+loose-at-requires c κs = search (needs, peeks-cases)
+
 second-requires : tie.Need-second-requires
 second-requires c κs = (search needs, search (needs, peeks-cases))
 
@@ -52,6 +55,7 @@ first-spec =
     enum-told
     no-leaves-requires-2
     returns
+    loose-at-requires
     second-requires
     returns-2
     returns-3)

@@ -36,6 +36,9 @@ no-leaves-requires-2 c κs = search (needs, peeks-cases)
 returns : tie.Need-returns
 returns c = search (needs, peeks-cases)
 
+loose-at-requires : tie.Need-loose-at-requires
+loose-at-requires c κs = search (needs, peeks-cases)
+
 returns-2 : tie.Need-returns-2
 returns-2 c = search (needs, peeks-cases)
 
@@ -57,5 +60,6 @@ second-spec =
     enum-told
     no-leaves-requires-2
     returns
+    loose-at-requires
     returns-2
     returns-3)

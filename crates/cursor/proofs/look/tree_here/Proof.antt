@@ -15,6 +15,9 @@ refused-requires c κs = search (needs, tells-cases)
 enum-known-read-2 : tie.Need-enum-known-read-2
 enum-known-read-2 c = search (needs, tells-cases)
 
+loose-at-requires : tie.Need-loose-at-requires
+loose-at-requires c κs = search (needs, tells-cases)
+
 returns : tie.Need-returns
 returns c = search (needs, tells-cases)
 
@@ -29,5 +32,6 @@ tree-here-spec =
     enum-known-read
     refused-requires
     enum-known-read-2
+    loose-at-requires
     returns
     returns-2)

@@ -12,11 +12,11 @@ mul-number c = search (needs, shut-cases)
 element-copy-out-number : tie.Need-element-copy-out-number
 element-copy-out-number c = search (needs, shut-cases)
 
-mul-decode-in : tie.Need-mul-decode-in
-mul-decode-in c = search (needs, shut-cases)
+mul-place : tie.Need-mul-place
+mul-place c = search (needs, shut-cases)
 
-element-copy-out-decode-in : tie.Need-element-copy-out-decode-in
-element-copy-out-decode-in c = search (needs, shut-cases)
+element-copy-out-place : tie.Need-element-copy-out-place
+element-copy-out-place c = search (needs, shut-cases)
 
 decode-in-requires : tie.Need-decode-in-requires
 decode-in-requires c κs = search (needs, shut-cases)
@@ -29,6 +29,9 @@ refuse-requires c κs = search (needs, shut-cases)
 
 enum-known-read-2 : tie.Need-enum-known-read-2
 enum-known-read-2 c = search (needs, shut-cases)
+
+loose-at-requires : tie.Need-loose-at-requires
+loose-at-requires c κs = search (needs, shut-cases)
 
 mul-shut : tie.Need-mul-shut
 mul-shut c = search (needs, shut-cases)
@@ -52,12 +55,13 @@ shut-last-spec =
     sub-last
     mul-number
     element-copy-out-number
-    mul-decode-in
-    element-copy-out-decode-in
+    mul-place
+    element-copy-out-place
     decode-in-requires
     enum-known-read
     refuse-requires
     enum-known-read-2
+    loose-at-requires
     mul-shut
     element-copy-out-shut
     shut-requires

@@ -30,6 +30,9 @@ part-pair-end c = search (needs, sized-cases)
 decode-in-requires : tie.Need-decode-in-requires
 decode-in-requires c κs = search (needs, sized-cases)
 
+reported-requires : tie.Need-reported-requires
+reported-requires c κs = search (needs, sized-cases)
+
 returns-2 : tie.Need-returns-2
 returns-2 c = search (needs, sized-cases)
 
@@ -46,4 +49,5 @@ decode-spec =
     part-pair-start
     part-pair-end
     decode-in-requires
+    reported-requires
     returns-2)

@@ -3,11 +3,11 @@ use Rattle.decode.proofs.ReadForms.{form-cases}
 use Rattle.decode.proofs.read.form_101.Statement.{statement}
 use Rattle.decode.proofs.read.form_101.Tie as tie
 
-add-decode-span : tie.Need-add-decode-span
-add-decode-span c = search (needs, form-cases)
+add-span-at : tie.Need-add-span-at
+add-span-at c = search (needs, form-cases)
 
-decode-span-requires : tie.Need-decode-span-requires
-decode-span-requires c κs = search (needs, form-cases)
+span-at-requires : tie.Need-span-at-requires
+span-at-requires c κs = search (needs, form-cases)
 
 enum-known-close : tie.Need-enum-known-close
 enum-known-close c = search (needs, form-cases)
@@ -46,8 +46,8 @@ pub form-101-spec : {M : Type 1} → statement M
 form-101-spec =
     tie.close
     (tie.spec
-    add-decode-span
-    decode-span-requires
+    add-span-at
+    span-at-requires
     enum-known-close
     enum-told
     returns

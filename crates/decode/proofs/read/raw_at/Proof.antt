@@ -3,8 +3,8 @@ use Rattle.decode.proofs.ReadForms.{control-cases}
 use Rattle.decode.proofs.read.raw_at.Statement.{statement}
 use Rattle.decode.proofs.read.raw_at.Tie as tie
 
-decode-span-requires : tie.Need-decode-span-requires
-decode-span-requires c κs = search (needs, control-cases)
+span-at-requires : tie.Need-span-at-requires
+span-at-requires c κs = search (needs, control-cases)
 
 enum-known-head : tie.Need-enum-known-head
 enum-known-head c = search (needs, control-cases)
@@ -49,7 +49,7 @@ pub raw-at-spec : {M : Type 1} → statement M
 raw-at-spec =
     tie.close
     (tie.spec
-    decode-span-requires
+    span-at-requires
     enum-known-head
     enum-told
     returns

@@ -1,26 +1,20 @@
 use borrow.Author.Needs.{needs}
-use Rattle.export.proofs.StoreCases.{store-cases}
+use Rattle.export.proofs.StoreCases.{report-cases}
 use Rattle.export.proofs.trees.store_tree.Statement.{statement}
 use Rattle.export.proofs.trees.store_tree.Tie as tie
-use Rattle.export.proofs.trees.store_tree.Reads as reads
-use Rattle.export.proofs.trees.store_tree.Lts as lts
-use Rattle.export.proofs.unchecked.store_words.Reads as store-words-reads
 
--- src/trees.rt:94:5
-store-words-requires : tie.Need-store-words-requires
-store-words-requires c κs = search (needs, store-cases)
+store-counted-requires : tie.Need-store-counted-requires
+store-counted-requires c κs = search (needs, report-cases)
 
--- src/trees.rt:95:5
-slice-write-words : tie.Need-slice-write-words
-slice-write-words c = search (needs, store-cases)
+store-loose-requires : tie.Need-store-loose-requires
+store-loose-requires c κs = search (needs, report-cases)
 
--- src/trees.rt:90:1
 same-length : tie.Need-same-length
-same-length c = search (needs, store-cases)
+same-length c = search (needs, report-cases)
 
--- src/trees.rt:90:1
 returns : tie.Need-returns
-returns c = search (needs, store-cases)
+returns c = search (needs, report-cases)
 
 pub store-tree-spec : {M : Type 1} → statement M
-store-tree-spec = tie.close (tie.spec store-words-requires slice-write-words same-length returns)
+store-tree-spec =
+    tie.close (tie.spec store-counted-requires store-loose-requires same-length returns)

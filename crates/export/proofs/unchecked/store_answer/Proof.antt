@@ -10,75 +10,57 @@ use Rattle.export.proofs.unchecked.store_state.Reads as store-state-rea
 use Rattle.export.proofs.unchecked.store_words.Reads as store-words-reads
 use Rattle.tree.proofs.words.tree_words.Reads as tree-words-reads
 
--- src/cursors.rt:37:25
 enum-known-answer : tie.Need-enum-known-answer
 enum-known-answer c = search (needs, cursor-cases, store-cases)
 
--- src/cursors.rt:37:37
 refused-code-requires : tie.Need-refused-code-requires
 refused-code-requires c κs = search (needs, cursor-cases, store-cases)
 
--- src/cursors.rt:39:25
 enum-told : tie.Need-enum-told
 enum-told c = search (needs, cursor-cases, store-cases)
 
--- src/cursors.rt:39:13
 store-state-requires : tie.Need-store-state-requires
 store-state-requires c κs = search (needs, cursor-cases, store-cases)
 
--- src/cursors.rt:43:25
 enum-told-2 : tie.Need-enum-told-2
 enum-told-2 c = search (needs, cursor-cases, store-cases)
 
--- src/cursors.rt:43:13
 store-state-requires-2 : tie.Need-store-state-requires-2
 store-state-requires-2 c κs = search (needs, cursor-cases, store-cases)
 
--- src/cursors.rt:46:22
 enum-known-answer-2 : tie.Need-enum-known-answer-2
 enum-known-answer-2 c = search (needs, cursor-cases, store-cases)
 
--- src/cursors.rt:47:13
 store-state-requires-3 : tie.Need-store-state-requires-3
 store-state-requires-3 c κs = search (needs, cursor-cases, store-cases)
 
--- src/cursors.rt:48:35
 tree-words-requires : tie.Need-tree-words-requires
 tree-words-requires c κs = search (needs, cursor-cases, store-cases)
 
--- src/cursors.rt:48:13
-store-words-requires : tie.Need-store-words-requires
-store-words-requires c κs = search (needs, cursor-cases, store-cases)
+store-reported-requires : tie.Need-store-reported-requires
+store-reported-requires c κs = search (needs, cursor-cases, store-cases)
 
--- src/cursors.rt:31:1
 returns : tie.Need-returns
 returns c = search (needs, cursor-cases, store-cases)
 
--- src/cursors.rt:31:1
 same-length : tie.Need-same-length
 same-length c = search (needs, cursor-cases, store-cases)
 
--- src/cursors.rt:31:1
 returns-2 : tie.Need-returns-2
 returns-2 c = search (needs, cursor-cases, store-cases)
 
--- src/cursors.rt:31:1
 same-length-2 : tie.Need-same-length-2
 same-length-2 c = search (needs, cursor-cases, store-cases)
 
--- src/cursors.rt:31:1
 returns-3 : tie.Need-returns-3
 returns-3 c = search (needs, cursor-cases, store-cases)
 
--- src/cursors.rt:31:1
 same-length-3 : tie.Need-same-length-3
 same-length-3 c = search (needs, cursor-cases, store-cases)
 
--- src/cursors.rt:31:1
 same-length-4 : tie.Need-same-length-4
 same-length-4 c = search (needs, cursor-cases, store-cases)
 
--- src/cursors.rt:31:1
 returns-4 : tie.Need-returns-4
 returns-4 c = search (needs, cursor-cases, store-cases)
 
@@ -95,7 +77,7 @@ store-answer-spec =
     enum-known-answer-2
     store-state-requires-3
     tree-words-requires
-    store-words-requires
+    store-reported-requires
     returns
     same-length
     returns-2

@@ -9,39 +9,24 @@ use Rattle.export.proofs.unchecked.ahead_words.Reads as ahead-words-rea
 use Rattle.export.proofs.unchecked.store_state.Reads as store-state-reads
 use Rattle.export.proofs.unchecked.store_two.Reads as store-two-reads
 
--- src/unchecked.rt:86:16
 array-copy-out-near : tie.Need-array-copy-out-near
 array-copy-out-near c = search (needs, cursor-cases, store-cases)
 
--- src/unchecked.rt:87:15
 array-copy-out-far : tie.Need-array-copy-out-far
 array-copy-out-far c = search (needs, cursor-cases, store-cases)
 
--- src/unchecked.rt:88:5
 store-state-requires : tie.Need-store-state-requires
 store-state-requires c κs = search (needs, cursor-cases, store-cases)
 
--- src/unchecked.rt:89:22
-ahead-words-requires : tie.Need-ahead-words-requires
-ahead-words-requires c κs = search (needs, cursor-cases, store-cases)
-
--- src/unchecked.rt:89:41
-ahead-words-requires-2 : tie.Need-ahead-words-requires-2
-ahead-words-requires-2 c κs = search (needs, cursor-cases, store-cases)
-
--- src/unchecked.rt:89:5
 store-two-requires : tie.Need-store-two-requires
 store-two-requires c κs = search (needs, cursor-cases, store-cases)
 
--- src/unchecked.rt:81:1
 same-length : tie.Need-same-length
 same-length c = search (needs, cursor-cases, store-cases)
 
--- src/unchecked.rt:81:1
 same-length-2 : tie.Need-same-length-2
 same-length-2 c = search (needs, cursor-cases, store-cases)
 
--- src/unchecked.rt:81:1
 returns : tie.Need-returns
 returns c = search (needs, cursor-cases, store-cases)
 
@@ -52,8 +37,6 @@ store-both-spec =
     array-copy-out-near
     array-copy-out-far
     store-state-requires
-    ahead-words-requires
-    ahead-words-requires-2
     store-two-requires
     same-length
     same-length-2

@@ -8,39 +8,36 @@ use Rattle.export.proofs.walks.store_last.Lts as lts
 use Rattle.export.proofs.replies.refused_code.Reads as refused-code-reads
 use Rattle.export.proofs.walks.store_span.Reads as store-span-reads
 
--- src/walks.rt:111:27
 enum-known-last : tie.Need-enum-known-last
 enum-known-last c = search (needs, step-cases, store-cases)
 
--- src/walks.rt:111:39
 refused-code-requires : tie.Need-refused-code-requires
 refused-code-requires c κs = search (needs, step-cases, store-cases)
 
--- src/walks.rt:112:27
 enum-told : tie.Need-enum-told
 enum-told c = search (needs, step-cases, store-cases)
 
--- src/walks.rt:113:24
 enum-known-last-2 : tie.Need-enum-known-last-2
 enum-known-last-2 c = search (needs, step-cases, store-cases)
 
--- src/walks.rt:114:13
 store-span-requires : tie.Need-store-span-requires
 store-span-requires c κs = search (needs, step-cases, store-cases)
 
--- src/walks.rt:106:1
+bit-requires : tie.Need-bit-requires
+bit-requires c κs = search (needs, step-cases, store-cases)
+
+slice-write-words : tie.Need-slice-write-words
+slice-write-words c = search (needs, step-cases, store-cases)
+
 returns : tie.Need-returns
 returns c = search (needs, step-cases, store-cases)
 
--- src/walks.rt:106:1
 returns-2 : tie.Need-returns-2
 returns-2 c = search (needs, step-cases, store-cases)
 
--- src/walks.rt:106:1
 same-length : tie.Need-same-length
 same-length c = search (needs, step-cases, store-cases)
 
--- src/walks.rt:106:1
 returns-3 : tie.Need-returns-3
 returns-3 c = search (needs, step-cases, store-cases)
 
@@ -53,6 +50,8 @@ store-last-spec =
     enum-told
     enum-known-last-2
     store-span-requires
+    bit-requires
+    slice-write-words
     returns
     returns-2
     same-length

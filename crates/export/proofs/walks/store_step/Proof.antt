@@ -10,59 +10,45 @@ use Rattle.export.proofs.unchecked.store_words.Reads as store-words-rea
 use Rattle.export.proofs.walks.store_walk.Reads as store-walk-reads
 use Rattle.tree.proofs.words.tree_words.Reads as tree-words-reads
 
--- src/walks.rt:48:25
 enum-known-answer : tie.Need-enum-known-answer
 enum-known-answer c = search (needs, step-cases, store-cases)
 
--- src/walks.rt:48:37
 refused-code-requires : tie.Need-refused-code-requires
 refused-code-requires c κs = search (needs, step-cases, store-cases)
 
--- src/walks.rt:50:24
 enum-told : tie.Need-enum-told
 enum-told c = search (needs, step-cases, store-cases)
 
--- src/walks.rt:50:13
 store-walk-requires : tie.Need-store-walk-requires
 store-walk-requires c κs = search (needs, step-cases, store-cases)
 
--- src/walks.rt:53:22
 enum-known-answer-2 : tie.Need-enum-known-answer-2
 enum-known-answer-2 c = search (needs, step-cases, store-cases)
 
--- src/walks.rt:54:13
 store-walk-requires-2 : tie.Need-store-walk-requires-2
 store-walk-requires-2 c κs = search (needs, step-cases, store-cases)
 
--- src/walks.rt:55:35
 tree-words-requires : tie.Need-tree-words-requires
 tree-words-requires c κs = search (needs, step-cases, store-cases)
 
--- src/walks.rt:55:13
-store-words-requires : tie.Need-store-words-requires
-store-words-requires c κs = search (needs, step-cases, store-cases)
+store-reported-requires : tie.Need-store-reported-requires
+store-reported-requires c κs = search (needs, step-cases, store-cases)
 
--- src/walks.rt:41:1
 returns : tie.Need-returns
 returns c = search (needs, step-cases, store-cases)
 
--- src/walks.rt:41:1
 same-length : tie.Need-same-length
 same-length c = search (needs, step-cases, store-cases)
 
--- src/walks.rt:41:1
 returns-2 : tie.Need-returns-2
 returns-2 c = search (needs, step-cases, store-cases)
 
--- src/walks.rt:41:1
 same-length-2 : tie.Need-same-length-2
 same-length-2 c = search (needs, step-cases, store-cases)
 
--- src/walks.rt:41:1
 same-length-3 : tie.Need-same-length-3
 same-length-3 c = search (needs, step-cases, store-cases)
 
--- src/walks.rt:41:1
 returns-3 : tie.Need-returns-3
 returns-3 c = search (needs, step-cases, store-cases)
 
@@ -77,7 +63,7 @@ store-step-spec =
     enum-known-answer-2
     store-walk-requires-2
     tree-words-requires
-    store-words-requires
+    store-reported-requires
     returns
     same-length
     returns-2

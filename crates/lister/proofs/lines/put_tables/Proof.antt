@@ -15,6 +15,12 @@ slice-aggregate-put-count-2 c = search (needs, line-cases)
 put-count-requires-2 : tie.Need-put-count-requires-2
 put-count-requires-2 c κs = search (needs, line-cases)
 
+slice-aggregate-put-count-3 : tie.Need-slice-aggregate-put-count-3
+slice-aggregate-put-count-3 c = search (needs, line-cases)
+
+put-count-requires-3 : tie.Need-put-count-requires-3
+put-count-requires-3 c κs = search (needs, line-cases)
+
 put-char-requires : tie.Need-put-char-requires
 put-char-requires c κs = search (needs, line-cases)
 
@@ -32,6 +38,8 @@ put-tables-spec =
     put-count-requires
     slice-aggregate-put-count-2
     put-count-requires-2
+    slice-aggregate-put-count-3
+    put-count-requires-3
     put-char-requires
     same-length
     returns)

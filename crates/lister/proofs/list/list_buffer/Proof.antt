@@ -21,6 +21,9 @@ put-refusal-requires c κs = search (needs, buffer-cases)
 enum-told : tie.Need-enum-told
 enum-told c = search (needs, buffer-cases)
 
+loose-below-requires : tie.Need-loose-below-requires
+loose-below-requires c κs = search (needs, buffer-cases)
+
 place-requires-3 : tie.Need-place-requires-3
 place-requires-3 c κs = search (needs, buffer-cases)
 
@@ -52,6 +55,7 @@ list-buffer-spec =
     place-requires-2
     put-refusal-requires
     enum-told
+    loose-below-requires
     place-requires-3
     put-header-requires
     put-lines-requires

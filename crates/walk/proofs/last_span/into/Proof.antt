@@ -9,8 +9,14 @@ enum-known-tree c = search (needs, last-cases)
 leaf-span-requires : tie.Need-leaf-span-requires
 leaf-span-requires c κs = search (needs, last-cases)
 
+opening-loose-requires : tie.Need-opening-loose-requires
+opening-loose-requires c κs = search (needs, last-cases)
+
 enum-known-tree-2 : tie.Need-enum-known-tree-2
 enum-known-tree-2 c = search (needs, last-cases)
+
+closing-loose-requires : tie.Need-closing-loose-requires
+closing-loose-requires c κs = search (needs, last-cases)
 
 returns : tie.Need-returns
 returns c = search (needs, last-cases)
@@ -30,7 +36,9 @@ into-spec =
     (tie.spec
     enum-known-tree
     leaf-span-requires
+    opening-loose-requires
     enum-known-tree-2
+    closing-loose-requires
     returns
     walk-in-requires
     returns-2

@@ -21,6 +21,9 @@ refuse-requires c κs = search (needs, step-cases)
 enum-known-begun-2 : tie.Need-enum-known-begun-2
 enum-known-begun-2 c = search (needs, step-cases)
 
+loose-at-requires : tie.Need-loose-at-requires
+loose-at-requires c κs = search (needs, step-cases)
+
 past-requires : tie.Need-past-requires
 past-requires c κs = search (needs, step-cases)
 
@@ -49,6 +52,7 @@ walk-in-spec =
     enum-known-begun
     refuse-requires
     enum-known-begun-2
+    loose-at-requires
     past-requires
     returns
     onward-requires
