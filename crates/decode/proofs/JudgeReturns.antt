@@ -13,9 +13,13 @@ use Rattle.format.specs.Fields.{fields}
 use Rattle.format.specs.Tables as format
 use Rattle.format.specs.Tables.{TableRules, rowEight}
 use Rattle.format.specs.Buffer.{formed, unless, judge}
+use Rattle.format.specs.Loose as report
+use Rattle.format.specs.Loose.{beside}
 use Rattle.tree.specs.Raw.{rawOf, rawAnswer, inRange}
 use Rattle.tree.specs.Mode.{limitsOf}
+use Rattle.tree.specs.Loose.{looseOf}
 use Rattle.tree.specs.declared.limits.Limits.{Limits}
+use Rattle.tree.specs.declared.loose.Loose.{Loose}
 use Rattle.tree.specs.declared.raw.RawPunct.{RawPunct}
 use Rattle.tree.specs.declared.raw.RawIdent.{RawIdent}
 use Rattle.tree.specs.declared.raw.RawLiteral.{RawLiteral}
@@ -25,7 +29,8 @@ use Rattle.tree.specs.declared.raw.RawTree.{RawTree}
 use Rattle.tree.specs.declared.raw.RawTree.the-variants.{Punct, Ident, Literal, Subtree}
 use Rattle.tree.specs.declared.raw.RawRead.{RawRead}
 use Rattle.tree.specs.declared.raw.RawRead.the-variants.{Got, Bad}
-use Rattle.decode.specs.Judge.{rowFrom, rowOf, limitRules}
+use Rattle.decode.specs.Judge.{rowFrom, rowOf, limitRules, judgedOf}
+use Rattle.decode.specs.declared.judge.TreeJudged.the-variants as judgeds
 use Rattle.decode.proofs.ReadUse.{reply-bad, reply-got, raw-read, raw-fits}
 
 -- ---- indices
@@ -198,9 +203,24 @@ judged-same show T T′ n at e (bad r) = refl
 judged-same show T T′ n at e (got t next kids) =
     ap (λ (f : ℕ → Raw → ℕ). if not (formed n at next) then bad 2 else (if not (fields t) then bad 2 else unless (f n t) (got (show n t) next kids))) e
 
-pub judged-own : (b : List ℕ) (N : Limits) (p y n at : ℕ) (r : RawRead) → limitsOf N ≡ format.ownLimits p y
-    → r ≡ rawAnswer (judge (λ n t. t) (limitRules (limitsOf N)) n at (treeAt b at)) → r ≡ rawAnswer (judge (λ n t. t) (format.countRules p y) n at (treeAt b at))
-judged-own b N p y n at r e q =
-    q ∙ ap rawAnswer (judged-same (λ n t. t) (limitRules (limitsOf N)) (format.countRules p y) n at (ap rowEight e) (treeAt b at))
+-- by the sizes of the tables, with its report
+module _ (b : List ℕ) (N : Limits) (p y n at : ℕ) (e : limitsOf N ≡ format.ownLimits p y) (r : RawRead)
+    (q : r ≡ rawAnswer (judge (λ n t. t) (limitRules (limitsOf N)) n at (treeAt b at))) (x : report.Loose) where
+  abbrev own : Reply Raw
+  own = judge (λ n t. t) (format.countRules p y) n at (treeAt b at)
 
-pub ruleset judge-cases = (any-form, form-low, form-other, form-root, judged-bad, judged-row, judged-got, judged-own)
+  judged-own : r ≡ rawAnswer own
+  judged-own = q ∙ ap rawAnswer (judged-same (λ n t. t) (limitRules (limitsOf N)) (format.countRules p y) n at (ap rowEight e) (treeAt b at))
+
+  pub told-bad : (k : ℕ) → r ≡ Bad k → judgedOf (judgeds.Bad k) ≡ beside x own
+  unfolding judgedOf
+  told-bad k f = sym (ap (beside x) (reply-bad own r judged-own k f))
+
+  pub told-got : (z : RawAt) → r ≡ Got z → (l : Loose) → looseOf l ≡ x
+      → judgedOf (judgeds.Got (record { tree = z .tree; next = z .next; children = z .children; loose = l })) ≡ beside x own
+  unfolding judgedOf
+  told-got z f l g = ap (λ (u : report.Loose). got (rawOf (z .tree), u) (z .next) (z .children .0)) g ∙ sym (ap (beside x) (reply-got own r judged-own z f))
+
+pub ruleset judge-cases = (any-form, form-low, form-other, form-root, judged-bad, judged-row, judged-got)
+
+pub ruleset told-cases = (told-bad, told-got)

@@ -1,7 +1,7 @@
 -- What a caller learns from a tree that was read and judged.
 use Prim.Native.Nat.{ℕ, _+_, _≤_}
 use mathlib.Core.Bool.{Bool, true, false}
-use mathlib.Core.Path.{_≡_, refl, subst}
+use mathlib.Core.Path.{_≡_, refl, sym, ap, _∙_, subst}
 use mathlib.Core.List.{List}
 use native.Mathlib.Omega.{arith}
 use borrow.Author.Tests.{eqb-true}
@@ -12,11 +12,19 @@ use Rattle.format.specs.Tree.{Raw, treeAt}
 use Rattle.format.specs.Fields.{fields}
 use Rattle.format.specs.Tables.{TableRules}
 use Rattle.format.specs.Buffer.{formed, judge}
+use Rattle.format.specs.Loose as format
+use Rattle.format.specs.Loose.{beside}
+use Rattle.format.proofs.Shown.{shownReply}
 use Rattle.format.proofs.TreeBounds.{Ended, tree-ended}
 use Rattle.tree.specs.Raw.{rawOf, rawAnswer}
+use Rattle.tree.specs.Loose.{looseOf}
 use Rattle.tree.specs.declared.raw.RawAt.{RawAt}
 use Rattle.tree.specs.declared.raw.RawRead.{RawRead}
 use Rattle.tree.specs.declared.raw.RawRead.the-variants.{Got}
+use Rattle.decode.specs.Judge.{judgedOf}
+use Rattle.decode.specs.declared.judge.JudgedTree.{JudgedTree}
+use Rattle.decode.specs.declared.judge.TreeJudged.{TreeJudged}
+use Rattle.decode.specs.declared.judge.TreeJudged.the-variants as judgeds
 use Rattle.decode.proofs.ReadUse.{reply-got}
 
 -- a tree that no row refuses
@@ -65,3 +73,38 @@ module _ (b : List ℕ) (T : TableRules) (n at : ℕ) (r : RawRead) (e : r ≡ r
   judged-inside = subst (Ended b at) judged-read (tree-ended b at) .1
 
 pub ruleset judged-cases = (judged-read, judged-passed, judged-after, judged-inside)
+
+-- ---- with its report
+
+abbrev unreported : Reply (Raw × format.Loose) → Reply Raw
+unreported z = shownReply (λ (t : Raw × format.Loose). t .0) z
+
+unreported-beside : (x : format.Loose) (z : Reply Raw) → unreported (beside x z) ≡ z
+unreported-beside x (got t n k) = refl
+unreported-beside x (bad r) = refl
+
+reportIn : format.Loose → Reply (Raw × format.Loose) → format.Loose
+reportIn x (got t n k) = t .1
+reportIn x (bad r) = x
+
+report-beside : (x : format.Loose) (z : Reply Raw) → reportIn x (beside x z) ≡ x
+unfolding reportIn
+report-beside x (got t n k) = refl
+report-beside x (bad r) = refl
+
+module _ (x : format.Loose) (z : Reply Raw) (r : TreeJudged) (e : judgedOf r ≡ beside x z) where
+  told-tree : unreported (judgedOf r) ≡ z
+  told-tree = ap unreported e ∙ unreported-beside x z
+
+  pub told-bad : (k : ℕ) → r ≡ judgeds.Bad k → z ≡ bad k
+  unfolding judgedOf
+  told-bad k q = sym told-tree ∙ ap (λ (u : TreeJudged). unreported (judgedOf u)) q
+
+  module _ (y : JudgedTree) (q : r ≡ judgeds.Got y) where
+    pub told-got : z ≡ got (rawOf (y .tree)) (y .next) (y .children .0)
+    unfolding judgedOf
+    told-got = sym told-tree ∙ ap (λ (u : TreeJudged). unreported (judgedOf u)) q
+
+    pub told-loose : looseOf (y .loose) ≡ x
+    unfolding judgedOf reportIn
+    told-loose = sym (ap (λ (u : TreeJudged). reportIn x (judgedOf u)) q) ∙ ap (reportIn x) e ∙ report-beside x z

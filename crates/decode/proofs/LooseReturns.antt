@@ -1,68 +1,28 @@
 -- One law for each return of the functions that report on the tree at a place.
-use Prim.Native.Nat.{ℕ, zero, suc, _+_, _/_, _%_, _≤_, _<_}
+use Prim.Native.Nat.{ℕ, _+_, _/_, _%_, _≤_, _<_}
 use mathlib.Core.Bool.{Bool, true, false}
-use mathlib.Core.Path.{_≡_, refl, sym, ap, _∙_, subst}
-use mathlib.Core.List.{List, [], _∷_}
-use native.Mathlib.Omega.{arith}
+use mathlib.Core.Path.{_≡_, sym, ap, _∙_}
+use mathlib.Core.List.{List}
 use borrow.Author.Tests.{eq-eqb, ne-eqb, lt-ltb, le-ltb}
-use lib.ListN.{length}
+use lib.ListN.{length, List·getD-eq-default}
 use Rattle.format.specs.Word.{byteAt}
 use Rattle.format.specs.Span.{span, spanAt}
 use Rattle.format.specs.Span as format
 use Rattle.format.specs.Loose.{Loose, isLoose, looseRead, looseLeaf, looseShared, looseBoth, looseBy, looseAfter, looseAt}
-use Rattle.format.proofs.TreeBounds.{Spanned, span-within}
 use Rattle.pack.specs.Answer.{spanOf, decodedAnswer}
 use Rattle.pack.specs.declared.span.DecodedSpan.{DecodedSpan}
 use Rattle.pack.specs.declared.span.SpanDecoded.{SpanDecoded}
 use Rattle.pack.specs.declared.span.SpanDecoded.the-variants.{Read, Short}
-
--- ---- a span that was decoded
-
-read-short : {A : Type 0} (y : DecodedSpan) → Read y ≡ Short → A
-read-short y e = let z : _≡_ {A = ℕ} 0 1 = cc in absurd (omega arith)
-
-read-read : (y z : DecodedSpan) → Read y ≡ Read z → y ≡ z
-read-read y z e = cc
-
-module _ (p : ℕ) where
-  span-of : (z : format.SpanRead) (y : DecodedSpan) → Read y ≡ decodedAnswer p z → z ≡ span (y .extra) (spanOf (y .span)) (y .next)
-  unfolding decodedAnswer
-  span-of (format.span x s n) y e = sym (ap (λ (u : DecodedSpan). span (u .extra) (spanOf (u .span)) (u .next)) (read-read _ _ e))
-  span-of format.SpanRead.short y e = read-short y e
-
-  loose-of : (z : format.SpanRead) (y : DecodedSpan) → Read y ≡ decodedAnswer p z → y .loose ≡ looseRead p z
-  unfolding decodedAnswer
-  loose-of (format.span x s n) y e = ap (λ (u : DecodedSpan). u .loose) (read-read _ _ e)
-  loose-of format.SpanRead.short y e = read-short y e
-
-  short-of : (z : format.SpanRead) → Short ≡ decodedAnswer p z → z ≡ format.SpanRead.short
-  unfolding decodedAnswer
-  short-of (format.span x s n) e = read-short _ (sym e)
-  short-of format.SpanRead.short e = refl
-
-module _ (b : List ℕ) (at : ℕ) (r : SpanDecoded) (e : r ≡ decodedAnswer at (spanAt b at)) where
-  decoded-cut : r ≡ Short → spanAt b at ≡ format.SpanRead.short
-  decoded-cut k = short-of at (spanAt b at) (sym k ∙ e)
-
-  decoded-span : (y : DecodedSpan) → r ≡ Read y → spanAt b at ≡ span (y .extra) (spanOf (y .span)) (y .next)
-  decoded-span y k = span-of at (spanAt b at) y (sym k ∙ e)
-
-  decoded-loose : (y : DecodedSpan) → r ≡ Read y → y .loose ≡ looseRead at (spanAt b at)
-  decoded-loose y k = loose-of at (spanAt b at) y (sym k ∙ e)
+use Rattle.pack.proofs.Use.{decoded-cut, decoded-read, decoded-loose, decoded-inside}
 
 -- ---- bytes and spans
 
 pub control-out : (b : List ℕ) (at : ℕ) → length b ≤ at → 0 ≡ byteAt b at
-control-out [] at h = refl
-control-out (x ∷ xs) zero h = absurd (omega arith)
-control-out (x ∷ xs) (suc at) h = control-out xs at (omega arith)
+control-out b at h = sym (List·getD-eq-default b 0 h)
 
 module _ (b : List ℕ) (at : ℕ) (r : SpanDecoded) (e : r ≡ decodedAnswer at (spanAt b at)) where
   pub loose-short : r ≡ Short → false ≡ looseRead at (spanAt b at)
   loose-short k = sym (ap (looseRead at) (decoded-cut b at r e k))
-
-  pub loose-read : (y : DecodedSpan) → r ≡ Read y → y .loose ≡ looseRead at (spanAt b at)
-  loose-read y k = decoded-loose b at r e y k
 
 -- ---- by the control byte
 
@@ -89,13 +49,10 @@ module _ (b : List ℕ) (at : ℕ) (r : SpanDecoded) (e : r ≡ decodedAnswer at
 
   module _ (y : DecodedSpan) (k : r ≡ Read y) where
     here : spanAt b at ≡ span (y .extra) (spanOf (y .span)) (y .next)
-    here = decoded-span b at r e y k
+    here = decoded-read b at r e y k
 
     first : y .loose ≡ isLoose at (spanOf (y .span)) (y .next)
     first = decoded-loose b at r e y k ∙ ap (looseRead at) here
-
-    pub at-inside : y .next ≤ length b
-    at-inside = subst (Spanned b at) here (span-within b at) .1
 
     pub at-ascii : y .extra % 2 ≡ 1 → l ≡ looseLeaf (y .loose) → l ≡ looseAt b at
     unfolding looseAt looseAfter
@@ -110,4 +67,4 @@ module _ (b : List ℕ) (at : ℕ) (r : SpanDecoded) (e : r ≡ decodedAnswer at
       unfolding looseAt looseAfter
       at-control j c f q = q ∙ rw here (simp (first, ne-eqb _ _ d, ne-eqb _ _ j, f))
 
-pub ruleset loose-at-cases = (control-out, loose-short, loose-read, by-own, by-shared, by-leaf, at-short, at-inside, at-ascii, at-ident, at-control)
+pub ruleset loose-at-cases = (control-out, loose-short, decoded-loose, decoded-inside, by-own, by-shared, by-leaf, at-short, at-ascii, at-ident, at-control)

@@ -1,7 +1,10 @@
 // One tree of a buffer, judged by its number and how far its indices may reach: 7, 2 and 8 in turn.
+use crate::loose::loose_at;
 use crate::read::raw_at;
 use tree::limits::Limits;
 use tree::limits::own_limits;
+use tree::loose::Loose;
+use tree::raw::ChildrenBytes;
 use tree::raw::RawRead;
 use tree::raw::RawTree;
 use tree::raw::place;
@@ -12,9 +15,24 @@ ghost use lib.Dec.{ltb, eqb};
 ghost use Rattle.format.specs.Tree.{treeAt};
 ghost use Rattle.format.specs.Tables.{countRules};
 ghost use Rattle.format.specs.Buffer.{formed, judge};
+ghost use Rattle.format.specs.Loose.{beside, looseAt};
 ghost use Rattle.tree.specs.Raw.{rawOf, rawAnswer};
 ghost use Rattle.tree.specs.Mode.{limitsOf};
-ghost use Rattle.decode.specs.Judge.{rowFrom, rowOf, limitRules};
+ghost use Rattle.decode.specs.Judge.{rowFrom, rowOf, limitRules, judgedOf};
+
+// A tree that was read and judged, the place behind it, a subtree's children bytes, and the report on its spans.
+pub struct JudgedTree {
+    pub tree: RawTree,
+    pub next: usize,
+    pub children: ChildrenBytes,
+    pub loose: Loose,
+}
+
+pub enum TreeJudged {
+    Got(JudgedTree),
+    // The refusal's number.
+    Bad(u32),
+}
 
 // The bytes of the root's form, which no other form has.
 const ROOT_BYTES: usize = 33;
@@ -157,10 +175,23 @@ pub fn tree_in(b: &[u8], limits: Limits, n: u32, at: usize) -> RawRead
     read
 }
 
-// The same by the sizes of tables of which the last two parts are the root's.
-pub fn tree_at(b: &[u8], parts: usize, symbols: usize, n: u32, at: usize) -> RawRead
-    ensures { λ r. ⌜ r ≡ rawAnswer (judge (λ n t. t) (countRules parts symbols) n at (treeAt (now (b .entry)) at)) ⌝ }
+// The same by the sizes of tables of which the last two parts are the root's, with its report.
+pub fn tree_at(b: &[u8], parts: usize, symbols: usize, n: u32, at: usize) -> TreeJudged
+    ensures { λ r. ⌜ judgedOf r ≡ beside (looseAt (now (b .entry)) at)
+        (judge (λ n t. t) (countRules parts symbols) n at (treeAt (now (b .entry)) at)) ⌝ }
 {
     let limits = own_limits(parts, symbols);
-    tree_in(b, limits, n, at)
+    match tree_in(b, limits, n, at) {
+        RawRead::Bad(number) => TreeJudged::Bad(number),
+        RawRead::Got(here) => {
+            let tree = here.tree;
+            let children = here.children;
+            TreeJudged::Got(JudgedTree {
+                tree: tree,
+                next: here.next,
+                children: children,
+                loose: loose_at(b, at),
+            })
+        }
+    }
 }

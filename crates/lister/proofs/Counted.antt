@@ -16,15 +16,16 @@ use Rattle.format.specs.Tree.{Raw, treeAt}
 use Rattle.format.specs.Check.{check, placeOf, nextOf, Admitted}
 use Rattle.format.specs.Tables.{countRules}
 use Rattle.format.specs.Buffer.{rawShape, judge, sizeReader}
-use Rattle.format.specs.Loose.{Loose, looseAt, looseFrom, looseBelow}
+use Rattle.format.specs.Loose.{Loose, looseAt, beside, looseFrom, looseBelow}
 use Rattle.format.proofs.CheckLaw.{check-sound, next-place}
 use Rattle.format.proofs.TreeBounds.{Ended, tree-ended}
 use Rattle.format.proofs.Reading.{each-clean}
-use Rattle.tree.specs.Raw.{rawAnswer}
-use Rattle.tree.specs.declared.raw.RawAt.{RawAt}
-use Rattle.tree.specs.declared.raw.RawRead.{RawRead}
-use Rattle.tree.specs.declared.raw.RawRead.the-variants.{Got, Bad}
-use Rattle.decode.proofs.ReadUse.{reply-got, reply-bad}
+use Rattle.tree.specs.Loose.{looseOf}
+use Rattle.decode.specs.Judge.{judgedOf}
+use Rattle.decode.specs.declared.judge.JudgedTree.{JudgedTree}
+use Rattle.decode.specs.declared.judge.TreeJudged.{TreeJudged}
+use Rattle.decode.specs.declared.judge.TreeJudged.the-variants.{Got, Bad}
+use Rattle.decode.proofs.JudgeUse.{told-got, told-bad, told-loose}
 use Rattle.lister.specs.BySizes.{sizeLoose}
 use Rattle.lister.proofs.Listed.{got-bad}
 use Rattle.lister.proofs.Eight.{Eight, tree-eight}
@@ -125,7 +126,7 @@ module _ (b : List ℕ) (k parts symbols : ℕ) where
           let w = no-more (eqb n 0) s in
           omega arith
 
-      module _ (r : RawRead) (e : r ≡ rawAnswer (judge (λ n t. t) (countRules parts symbols) n at (treeAt b at))) where
+      module _ (r : TreeJudged) (e : judgedOf r ≡ beside (looseAt b at) (judge (λ n t. t) (countRules parts symbols) n at (treeAt b at))) where
         abbrev reply : Reply Raw
         reply = judge (λ n t. t) (countRules parts symbols) n at (treeAt b at)
 
@@ -133,14 +134,14 @@ module _ (b : List ℕ) (k parts symbols : ℕ) where
         pub counted-bad : (j : ℕ) → r ≡ Bad j → count ≡ sizeLoose b k parts symbols
         unfolding sizeReader
         counted-bad j q =
-            let d = reply-bad reply r e j q in
+            let d = told-bad (looseAt b at) reply r e j q in
             got-bad _ _ _ j (sym (admitted ok .readable n h) ∙ sym (ap (λ x. R .read n x) (l .reach)) ∙ d)
 
-        pub counted-next : (y : RawAt) → r ≡ Got y → (o : Loose) → o ≡ looseAt b at → (i s m : ℕ) → i ≡ o .spans → (s ≡ i) × (s < 4294967296) → m ≡ (if eqb n 0 then 0 else s) → Counted (n + 1) (y .next) (count + m)
+        pub counted-next : (y : JudgedTree) → r ≡ Got y → (i s m : ℕ) → i ≡ looseOf (y .loose) .spans → (s ≡ i) × (s < 4294967296) → m ≡ (if eqb n 0 then 0 else s) → Counted (n + 1) (y .next) (count + m)
         unfolding sizeReader
-        counted-next y q o c i s m f₀ f g =
-            let d = reply-got reply r e y q in
-            let own : s ≡ looseAt b (place n) .spans = f .0 ∙ f₀ ∙ ap (λ (z : Loose). z .spans) c ∙ ap (λ (z : ℕ). looseAt b z .spans) (l .reach) in
+        counted-next y q i s m f₀ f g =
+            let d = told-got (looseAt b at) reply r e y q in
+            let own : s ≡ looseAt b (place n) .spans = f .0 ∙ f₀ ∙ ap (λ (z : Loose). z .spans) (told-loose (looseAt b at) reply r e y q) ∙ ap (λ (z : ℕ). looseAt b z .spans) (l .reach) in
             let adds : m ≡ (if eqb n 0 then 0 else looseAt b (place n) .spans) = g ∙ ap (λ (z : ℕ). if eqb n 0 then 0 else z) own in
             record {
               inside = omega arith;

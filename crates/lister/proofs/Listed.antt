@@ -18,17 +18,19 @@ use Rattle.format.proofs.OpenEnds.{openEnds}
 use Rattle.format.specs.Check.{check, placeOf, reading, listing, treeOf, nextOf, Admitted}
 use Rattle.format.specs.Tables.{countRules}
 use Rattle.format.specs.Buffer.{rawShape, judge, sizeReader}
+use Rattle.format.specs.Loose.{looseAt, beside}
 use Rattle.format.specs.Lister.{line, treeLine, treeLines}
 use Rattle.format.proofs.Each.{and-left, and-right}
 use Rattle.format.proofs.CursorRun.{around-here}
 use Rattle.format.proofs.CheckLaw.{check-sound, next-place}
 use Rattle.text.specs.Typed.{Typed}
 use Rattle.text.proofs.Typed.{kept, next-inside, typed-then, typed-none, typed-as}
-use Rattle.tree.specs.Raw.{rawOf, rawAnswer}
-use Rattle.tree.specs.declared.raw.RawAt.{RawAt}
-use Rattle.tree.specs.declared.raw.RawRead.{RawRead}
-use Rattle.tree.specs.declared.raw.RawRead.the-variants.{Got, Bad}
-use Rattle.decode.proofs.ReadUse.{reply-got, reply-bad}
+use Rattle.tree.specs.Raw.{rawOf}
+use Rattle.decode.specs.Judge.{judgedOf}
+use Rattle.decode.specs.declared.judge.JudgedTree.{JudgedTree}
+use Rattle.decode.specs.declared.judge.TreeJudged.{TreeJudged}
+use Rattle.decode.specs.declared.judge.TreeJudged.the-variants.{Got, Bad}
+use Rattle.decode.proofs.JudgeUse.{told-got, told-bad}
 use Rattle.lister.specs.BySizes.{sortOf, sizeLines}
 use Rattle.lister.specs.Ends.{push, Follows}
 use Rattle.lister.specs.TreePut.{TreePut}
@@ -85,7 +87,8 @@ module _ (b : List ℕ) (k parts symbols : ℕ) where
         let e : n ≡ k = omega arith in
         typed-as out₀ out at next _ _ (ap (λ x. treeLines rawShape sortOf R x 0) e) (l .text)
 
-    module _ (ok : check rawShape R ≡ passed) (h : n < k) (r : RawRead) (e : r ≡ rawAnswer (judge (λ n t. t) (countRules parts symbols) n first (treeAt b first))) where
+    module _ (ok : check rawShape R ≡ passed) (h : n < k) (r : TreeJudged)
+        (e : judgedOf r ≡ beside (looseAt b first) (judge (λ n t. t) (countRules parts symbols) n first (treeAt b first))) where
       admitted : Admitted rawShape R
       admitted = check-sound rawShape R ok
 
@@ -96,17 +99,17 @@ module _ (b : List ℕ) (k parts symbols : ℕ) where
       pub listed-bad : (j : ℕ) → r ≡ Bad j → Typed out₀ at (sizeLines b k parts symbols) next out
       unfolding sizeReader
       listed-bad j q =
-          let d = reply-bad (judge (λ n t. t) (countRules parts symbols) n first (treeAt b first)) r e j q in
+          let d = told-bad (looseAt b first) _ r e j q in
           got-bad _ _ _ j (sym (admitted .readable n h) ∙ sym (ap (λ x. R .read n x) (l .place)) ∙ d)
 
-      module _ (y : RawAt) (q : r ≡ Got y) where
+      module _ (y : JudgedTree) (q : r ≡ Got y) where
         abbrev t : Raw
         t = rawOf (y .tree)
 
         seen : reading rawShape R n ≡ got t (y .next) (y .children .0)
         unfolding sizeReader
         seen =
-            sym (ap (λ x. R .read n x) (l .place)) ∙ reply-got (judge (λ n t. t) (countRules parts symbols) n first (treeAt b first)) r e y q
+            sym (ap (λ x. R .read n x) (l .place)) ∙ told-got (looseAt b first) _ r e y q
 
         tree-is : L .tree n ≡ t
         tree-is = ap (treeOf rawShape R) seen

@@ -9,8 +9,8 @@ use crate::loose::loose_below;
 use bundle::read::BundleRead;
 use bundle::read::read_bundle;
 use checker::check::check;
+use decode::judge::TreeJudged;
 use decode::judge::tree_at;
-use tree::raw::RawRead;
 use tree::raw::RawTree;
 use tree::raw::place;
 use tree::refusal::Verdict;
@@ -74,7 +74,7 @@ fn put_lines(out: &mut [u8], at: usize, b: &[u8], trees: u32, parts: usize, symb
     let mut n: u32 = 0;
     while n < trees {
         let read = tree_at(b, parts, symbols, n, first);
-        let RawRead::Got(here) = read else {
+        let TreeJudged::Got(here) = read else {
             // Not in a buffer that the check has passed.
             return next;
         };

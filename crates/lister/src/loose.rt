@@ -1,9 +1,8 @@
 // How many of the spans below the root are longer than needed. A pass of its own: the header says it before the first
 // line.
+use decode::judge::TreeJudged;
 use decode::judge::tree_at;
-use decode::loose::loose_at;
 use tree::loose::loose_spans;
-use tree::raw::RawRead;
 use tree::raw::place;
 ghost use mathlib.Core.Path.{_≡_};
 ghost use Prim.Native.Nat.{_≤_};
@@ -36,11 +35,12 @@ pub(crate) fn loose_below(b: &[u8], trees: u32, parts: usize, symbols: usize) ->
     let mut n: u32 = 0;
     while n < trees {
         let read = tree_at(b, parts, symbols, n, at);
-        let RawRead::Got(here) = read else {
+        let TreeJudged::Got(here) = read else {
             // Not in a buffer that the check has passed.
             return count;
         };
-        count = count + below_root(n, place(loose_spans(loose_at(b, at))));
+        let loose = here.loose;
+        count = count + below_root(n, place(loose_spans(loose)));
         at = here.next;
         n = n + 1;
     }

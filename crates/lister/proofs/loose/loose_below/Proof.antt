@@ -26,9 +26,6 @@ enum-told c = search (needs, loose-cases)
 returns : tie.Need-returns Inv-loop μ-loop
 returns c = search (needs, loose-cases)
 
-loose-at-requires : tie.Need-loose-at-requires Inv-loop μ-loop
-loose-at-requires c κs = search (needs, loose-cases)
-
 loose-spans-requires : tie.Need-loose-spans-requires Inv-loop μ-loop
 loose-spans-requires c κs = search (needs, loose-cases)
 
@@ -64,7 +61,6 @@ loose-below-spec =
     enum-known-read
     enum-told
     returns
-    loose-at-requires
     loose-spans-requires
     place-requires
     below-root-requires
