@@ -1,7 +1,8 @@
 // The report on the tree at a place, of its bytes alone. It stands beside the reading of the tree: a reader that does
 // not hand it back does not pay for it.
-use pack::span::SpanDecoded;
-use pack::span::decode_span;
+use pack::span::SpanRead;
+use pack::span::is_loose;
+use pack::span::span_at;
 use pack::unchecked::byte_at;
 use tree::loose::Loose;
 use tree::loose::both_loose;
@@ -29,10 +30,11 @@ fn control_or_0(b: &[u8], at: usize) -> u32
 fn span_loose(b: &[u8], at: usize) -> bool
     ensures { λ r. ⌜ r ≡ looseRead at (spanAt (now (b .entry)) at) ⌝ }
 {
-    match decode_span(b, at) {
-        SpanDecoded::Read(span) => span.loose,
-        SpanDecoded::Short => false,
-    }
+    let SpanRead::Read(here) = span_at(b, at) else {
+        return false;
+    };
+    let span = here.span;
+    is_loose(span, here.next - at)
 }
 
 // By the control byte, which stands at `at`: 101 stores a close span; 000, 001 and 010 have none of their own.
@@ -52,14 +54,16 @@ fn loose_by(b: &[u8], at: usize, control: u32, first: bool) -> Loose
 pub fn loose_at(b: &[u8], at: usize) -> Loose
     ensures { λ r. ⌜ looseOf r ≡ looseAt (now (b .entry)) at ⌝ }
 {
-    let SpanDecoded::Read(head) = decode_span(b, at) else {
+    let SpanRead::Read(head) = span_at(b, at) else {
         return leaf_loose(false);
     };
+    let span = head.span;
+    let first = is_loose(span, head.next - at);
     if head.extra % 2 == 1 {
-        return leaf_loose(head.loose);
+        return leaf_loose(first);
     }
     if head.extra / 2 == 1 {
-        return leaf_loose(head.loose);
+        return leaf_loose(first);
     }
-    loose_by(b, head.next, control_or_0(b, head.next), head.loose)
+    loose_by(b, head.next, control_or_0(b, head.next), first)
 }

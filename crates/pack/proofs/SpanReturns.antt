@@ -11,8 +11,6 @@ use Rattle.format.specs.Word.{wordAt}
 use Rattle.format.specs.Span.{Span, spanAt, span₁, span₂, span₃}
 use Rattle.format.specs.Write.{spanBytes}
 use Rattle.format.specs.Pack.{spanForm}
-use Rattle.format.specs.Loose.{isLoose}
-use Rattle.format.proofs.LooseLaw.{loose-bytes}
 use Rattle.pack.specs.Answer.{spanOf, spanAnswer, decodedAnswer, spanHere, allBelow}
 use Rattle.pack.specs.declared.span.SpanAt.{SpanAt}
 use Rattle.pack.specs.declared.span.SpanRead.{SpanRead}
@@ -20,7 +18,7 @@ use Rattle.pack.specs.declared.span.SpanRead.the-variants as spans
 use Rattle.pack.specs.declared.span.SpanRead.the-variants.{Read, Short}
 use Rattle.pack.specs.declared.span.SpanDecoded.the-variants as decodeds
 use Rattle.pack.proofs.Sizes.{form-least}
-use Rattle.pack.proofs.Use.{span-cut, span-read, span-after}
+use Rattle.pack.proofs.Use.{span-cut, span-read, span-before, span-loose}
 
 module _ (s : Span) (i t l : ℕ) where
   pub above-1 : i ≤ s .index → false ≡ allBelow s i t l
@@ -102,16 +100,11 @@ module _ (b : List ℕ) (at : ℕ) (r : SpanRead) (e : r ≡ spanAnswer (spanAt 
   decoded-short k = sym (ap (decodedAnswer at) (span-cut b at r e k))
 
   module _ (y : SpanAt) (k : r ≡ spans.Read y) where
-    pub decoded-before : at ≤ y .next
-    decoded-before = let h = span-after b at r e y k in omega arith
-
     pub decoded-read : (x : Bool) → x ≡ ltb (length (spanBytes 0 (spanOf (y .span)))) (y .next - at)
         → decodeds.Read (record { span = y .span; extra = y .extra; next = y .next; loose = x }) ≡ decodedAnswer at (spanAt b at)
     unfolding decodedAnswer
     decoded-read x f =
-        let h = span-after b at r e y k in
-        let g : x ≡ isLoose at (spanOf (y .span)) (y .next) = f ∙ loose-bytes (spanOf (y .span)) at (y .next) (omega arith) in
-        ap (λ (u : Bool). decodeds.Read (record { span = y .span; extra = y .extra; next = y .next; loose = u })) g
+        ap (λ (u : Bool). decodeds.Read (record { span = y .span; extra = y .extra; next = y .next; loose = u })) (span-loose b at r e y k x f)
         ∙ sym (ap (decodedAnswer at) (span-read b at r e y k))
 
-pub ruleset decode-span-cases = (loose-least, loose-fits, loose-over, decoded-short, decoded-before, decoded-read)
+pub ruleset decode-span-cases = (loose-least, loose-fits, loose-over, decoded-short, span-before, decoded-read)

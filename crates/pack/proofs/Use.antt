@@ -1,10 +1,10 @@
 -- What a caller learns from the contracts, without opening a definition.
-use Prim.Native.Nat.{ℕ, _+_, _*_, _/_, _%_, _≤_, _<_}
+use Prim.Native.Nat.{ℕ, _+_, _-_, _*_, _/_, _%_, _≤_, _<_}
 use mathlib.Core.Bool.{Bool, true, false}
 use mathlib.Core.Path.{_≡_, refl, sym, ap, _∙_, subst}
 use mathlib.Core.List.{List}
 use native.Mathlib.Omega.{arith}
-use lib.Dec.{leb, eqb}
+use lib.Dec.{leb, ltb, eqb}
 use lib.ListN.{length}
 use Rattle.format.specs.Test.{if_then_else_}
 use Rattle.format.specs.Verdict.{Verdict, passed, refused, report}
@@ -14,17 +14,15 @@ use Rattle.format.specs.Span.{Span, span, spanAt, span₁, span₂, span₃, sy
 use Rattle.format.specs.Span as format
 use Rattle.format.specs.Write.{heavyBytes, spanBytes, symbolBytes}
 use Rattle.format.specs.Pack.{spanForm, packSpan, packSymbol}
+use Rattle.format.specs.Loose.{isLoose}
+use Rattle.format.proofs.LooseLaw.{loose-bytes}
 use Rattle.format.proofs.TreeBounds.{Spanned, span-within, Symboled, symbol-within}
 use Rattle.format.proofs.PackLaw.{span-packs, symbol-packs}
-use Rattle.format.specs.Loose.{looseRead}
-use Rattle.pack.specs.Answer.{spanOf, spanAnswer, decodedAnswer, symbolAnswer, packedAnswer}
+use Rattle.pack.specs.Answer.{spanOf, spanAnswer, symbolAnswer, packedAnswer}
 use Rattle.pack.specs.Packing.{SpanPacked, SymbolPacked}
 use Rattle.pack.specs.declared.Packed.{Packed}
 use Rattle.pack.specs.declared.Packed.the-variants.{Written, Refused}
-use Rattle.pack.specs.declared.span.DecodedSpan.{DecodedSpan}
 use Rattle.pack.specs.declared.span.SpanAt.{SpanAt}
-use Rattle.pack.specs.declared.span.SpanDecoded.{SpanDecoded}
-use Rattle.pack.specs.declared.span.SpanDecoded.the-variants as decodeds
 use Rattle.pack.specs.declared.span.SpanRead.{SpanRead}
 use Rattle.pack.specs.declared.span.SpanRead.the-variants as spans
 use Rattle.pack.specs.declared.symbol.SymbolAt.{SymbolAt}
@@ -85,53 +83,24 @@ module _ (b : List ℕ) (at : ℕ) (r : SpanRead) (e : r ≡ spanAnswer (spanAt 
     pub span-after : at + 4 ≤ y .next
     span-after = subst (Spanned b at) span-read (span-within b at) .0
 
+    pub span-before : at ≤ y .next
+    span-before = omega (arith, span-after)
+
     pub span-inside : y .next ≤ length b
     span-inside = subst (Spanned b at) span-read (span-within b at) .1
 
     pub span-extra : y .extra < 4
     span-extra = subst SmallExtra span-read (small-extra b at)
 
+    -- by the number of its bytes
+    pub span-loose : (x : Bool) → x ≡ ltb (length (spanBytes 0 (spanOf (y .span)))) (y .next - at) → x ≡ isLoose at (spanOf (y .span)) (y .next)
+    span-loose x f = f ∙ loose-bytes (spanOf (y .span)) at (y .next) span-before
+
 -- what the definition reads is what the answer holds
 pub span-found : (b : List ℕ) (at : ℕ) (r : SpanRead) → r ≡ spanAnswer (spanAt b at) → (x : ℕ) (s : Span) (n : ℕ) → spanAt b at ≡ span x s n
     → r ≡ spans.Read (record { span = record { index = s .index; start = s .start; len = s .len }; extra = x; next = n })
 unfolding spanAnswer
 span-found b at r e x s n k = e ∙ rw k
-
--- ---- a span that was decoded
-
-decoded-short : {A : Type 0} (y : DecodedSpan) → decodeds.Read y ≡ decodeds.Short → A
-decoded-short y e = let z : _≡_ {A = ℕ} 0 1 = cc in absurd (omega arith)
-
-decoded-same : (y z : DecodedSpan) → decodeds.Read y ≡ decodeds.Read z → y ≡ z
-decoded-same y z e = cc
-
-module _ (p : ℕ) where
-  span-of-decoded : (z : format.SpanRead) (y : DecodedSpan) → decodeds.Read y ≡ decodedAnswer p z
-      → (z ≡ span (y .extra) (spanOf (y .span)) (y .next)) × (y .loose ≡ looseRead p z)
-  unfolding decodedAnswer
-  span-of-decoded (format.span x s n) y e =
-      let d = decoded-same _ _ e in
-      (sym (ap (λ (u : DecodedSpan). span (u .extra) (spanOf (u .span)) (u .next)) d), ap (λ (u : DecodedSpan). u .loose) d)
-  span-of-decoded format.SpanRead.short y e = decoded-short y e
-
-  short-of-decoded : (z : format.SpanRead) → decodeds.Short ≡ decodedAnswer p z → z ≡ format.SpanRead.short
-  unfolding decodedAnswer
-  short-of-decoded (format.span x s n) e = decoded-short _ (sym e)
-  short-of-decoded format.SpanRead.short e = refl
-
-module _ (b : List ℕ) (at : ℕ) (r : SpanDecoded) (e : r ≡ decodedAnswer at (spanAt b at)) where
-  pub decoded-cut : r ≡ decodeds.Short → spanAt b at ≡ format.SpanRead.short
-  decoded-cut k = short-of-decoded at (spanAt b at) (sym k ∙ e)
-
-  module _ (y : DecodedSpan) (k : r ≡ decodeds.Read y) where
-    pub decoded-read : spanAt b at ≡ span (y .extra) (spanOf (y .span)) (y .next)
-    decoded-read = span-of-decoded at (spanAt b at) y (sym k ∙ e) .0
-
-    pub decoded-loose : y .loose ≡ looseRead at (spanAt b at)
-    decoded-loose = span-of-decoded at (spanAt b at) y (sym k ∙ e) .1
-
-    pub decoded-inside : y .next ≤ length b
-    decoded-inside = subst (Spanned b at) decoded-read (span-within b at) .1
 
 -- ---- a symbol that was read
 

@@ -163,7 +163,7 @@ pub fn span_size(span: PackedSpan, heavy: bool) -> usize
 }
 
 // Whether so many bytes are more than the span's packed form has.
-fn is_loose(span: PackedSpan, bytes: usize) -> bool
+pub fn is_loose(span: PackedSpan, bytes: usize) -> bool
     ensures { λ r. ⌜ r ≡ ltb (length (spanBytes 0 (spanOf span))) bytes ⌝ }
 {
     // No form has fewer bytes than four.

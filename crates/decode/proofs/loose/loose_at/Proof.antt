@@ -3,8 +3,8 @@ use Rattle.decode.proofs.LooseReturns.{loose-at-cases}
 use Rattle.decode.proofs.loose.loose_at.Statement.{statement}
 use Rattle.decode.proofs.loose.loose_at.Tie as tie
 
-decode-span-requires : tie.Need-decode-span-requires
-decode-span-requires c κs = search (needs, loose-at-cases)
+span-at-requires : tie.Need-span-at-requires
+span-at-requires c κs = search (needs, loose-at-cases)
 
 enum-known-head : tie.Need-enum-known-head
 enum-known-head c = search (needs, loose-at-cases)
@@ -17,6 +17,12 @@ leaf-loose-requires c κs = search (needs, loose-at-cases)
 
 returns : tie.Need-returns
 returns c = search (needs, loose-at-cases)
+
+sub-is-loose : tie.Need-sub-is-loose
+sub-is-loose c = search (needs, loose-at-cases)
+
+is-loose-requires : tie.Need-is-loose-requires
+is-loose-requires c κs = search (needs, loose-at-cases)
 
 leaf-loose-requires-2 : tie.Need-leaf-loose-requires-2
 leaf-loose-requires-2 c κs = search (needs, loose-at-cases)
@@ -43,11 +49,13 @@ pub loose-at-spec : {M : Type 1} → statement M
 loose-at-spec =
     tie.close
     (tie.spec
-    decode-span-requires
+    span-at-requires
     enum-known-head
     enum-told
     leaf-loose-requires
     returns
+    sub-is-loose
+    is-loose-requires
     leaf-loose-requires-2
     returns-2
     leaf-loose-requires-3
