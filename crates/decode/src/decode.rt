@@ -71,7 +71,7 @@ pub enum TreeDecoded {
 // ---- table entries
 
 // With entry `at` of a table.
-fn span_from(table: &[u32], at: usize, span: PackedSpan) -> Span
+pub fn span_from(table: &[u32], at: usize, span: PackedSpan) -> Span
     requires { ⌜ partSize * at + partSize ≤ length (now table) ⌝ }
     ensures { λ r. ⌜ r ≡ spanWith (partAt (now (table .entry)) at) (spanOf span) ⌝ }
 {
@@ -85,7 +85,7 @@ fn span_from(table: &[u32], at: usize, span: PackedSpan) -> Span
     }
 }
 
-fn symbol_from(symbols: &[u32], index: u32) -> u32
+pub fn symbol_from(symbols: &[u32], index: u32) -> u32
     requires { ⌜ index < length (now symbols) ⌝ }
     ensures { λ r. ⌜ r ≡ getD (now (symbols .entry)) index 0 ⌝ }
 {

@@ -21,7 +21,8 @@ use Rattle.format.specs.WordList.{wordOf, treeList, rawFrom, wordFields,
 use Rattle.format.specs.Writer.{listVerdict}
 use Rattle.format.specs.MakeTables.{partTable, symbolTable, partTotal}
 use Rattle.format.specs.Builder.{wordIn, leafWords, leafFits}
-use Rattle.format.specs.Replace.{listWork, tableWork, countWork, freshBytes, listOf, isLeaf, exchanged, replaceVerdict, replaceWork, outFits, replaceOut, LeafOnly}
+use Rattle.format.specs.Replace.{freshBytes, isLeaf, exchanged, replaceVerdict, replaceWork, outFits, replaceOut, LeafOnly}
+use Rattle.format.specs.Unpack.{listWork, tableWork, countWork, workFits, listOf}
 use Rattle.format.proofs.Each.{and-left, and-right, and₃, true-false, both, rule-passed, then-refused, rule-refused, renumber, each-all, all-each}
 use Rattle.format.proofs.Put.{put-length, put-before, put-at, put-after}
 use Rattle.format.proofs.TableLaw.{parts-most, symbols-most}
@@ -236,15 +237,12 @@ module _ (b : List ℕ) (k : ℕ) (parts symbols : List ℕ) where
     -- ---- the refusals
 
     module _ (a c d : ℕ) where
-      abbrev workFits : Bool
-      workFits = leb (listWork k) a && leb (tableWork k) c && leb (countWork k) d
-
       -- passed: the runs have room
       pub work-room : replaceWork b k parts symbols n w a c d ≡ passed → (replaceVerdict b k parts symbols n w ≡ passed) × (listWork k ≤ a) × (tableWork k ≤ c) × (countWork k ≤ d)
       unfolding replaceWork
       work-room e =
-          let x = both (replaceVerdict b k parts symbols n w) (rule workFits 6 0) e in
-          let y = and₃ (leb (listWork k) a) (leb (tableWork k) c) (leb (countWork k) d) (rule-passed workFits 6 0 (x .1)) in
+          let x = both (replaceVerdict b k parts symbols n w) (rule (workFits k a c d) 6 0) e in
+          let y = and₃ (leb (listWork k) a) (leb (tableWork k) c) (leb (countWork k) d) (rule-passed (workFits k a c d) 6 0 (x .1)) in
           (x .0, leb-true (listWork k) a (y .0), leb-true (tableWork k) c (y .1), leb-true (countWork k) d (y .2))
 
       module _ (out outParts outSymbols : List ℕ) where
@@ -265,7 +263,7 @@ module _ (b : List ℕ) (k : ℕ) (parts symbols : List ℕ) where
           ofCheck : (r m : ℕ) → bufferCheck b k parts symbols ≡ refused r m → ReplaceRow r m
           noLeaf : bufferCheck b k parts symbols ≡ passed → isLeaf b k parts symbols n ≡ false → ReplaceRow 10 n
           badLeaf : bufferCheck b k parts symbols ≡ passed → isLeaf b k parts symbols n ≡ true → leafFits w ≡ false → ReplaceRow 2 n
-          shortWork : replaceVerdict b k parts symbols n w ≡ passed → workFits ≡ false → ReplaceRow 6 0
+          shortWork : replaceVerdict b k parts symbols n w ≡ passed → workFits k a c d ≡ false → ReplaceRow 6 0
           shortOut : replaceWork b k parts symbols n w a c d ≡ passed → fit ≡ false → ReplaceRow 6 0
 
         leaf-row : (r m : ℕ) → replaceVerdict b k parts symbols n w ≡ refused r m → ReplaceRow r m
@@ -291,10 +289,10 @@ module _ (b : List ℕ) (k : ℕ) (parts symbols : List ℕ) where
         refused-row r m e =
             then-refused (replaceWork b k parts symbols n w a c d) (rule fit 6 0) r m
             (λ f.
-            then-refused (replaceVerdict b k parts symbols n w) (rule workFits 6 0) r m
+            then-refused (replaceVerdict b k parts symbols n w) (rule (workFits k a c d) 6 0) r m
             (leaf-row r m)
             (λ p g.
-            let x = rule-refused workFits 6 0 r m g in
+            let x = rule-refused (workFits k a c d) 6 0 r m g in
             renumber ReplaceRow (x .1) (x .2) (shortWork p (x .0)))
             f)
             (λ p f.

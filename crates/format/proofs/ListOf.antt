@@ -23,7 +23,7 @@ use Rattle.format.specs.Writer.{partIndex, symbolIndex, present, rowFive
 use Rattle.format.specs.Width.{openAt, closeAt, treeSize}
 use Rattle.format.specs.Part.{partFrom, partAt, samePart}
 use Rattle.format.specs.Builder.{wordIn}
-use Rattle.format.specs.Replace.{listOf}
+use Rattle.format.specs.Unpack.{listOf}
 use Rattle.format.proofs.Each.{and-left, and-right, and₃, true-false, all-each}
 use Rattle.format.proofs.NestLaw.{nest-complete}
 use Rattle.format.proofs.CheckLaw.{check-sound}

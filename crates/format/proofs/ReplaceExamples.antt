@@ -17,16 +17,17 @@ use Rattle.format.specs.Writer.{find, raws}
 use Rattle.format.specs.Distinct.{anyIn, tally, news}
 use Rattle.format.specs.Order.{range, before, insert, falling, ordered}
 use Rattle.format.specs.MakeTables.{keyCount, liveAt, keyPlace, alikeAt, limitOf, keysOf, timesOf, tableKeys, wordsOf, tableWords, partTable, symbolTable}
-use Rattle.format.specs.Replace.{freshBytes, ReplaceReport, replaced, refusal, listOf, isLeaf, exchanged, replaceVerdict, replaceWork, replaceOut, replaceReport, bytesOut, partsOut, symbolsOut}
+use Rattle.format.specs.Replace.{freshBytes, ReplaceReport, replaced, refusal, isLeaf, exchanged, replaceVerdict, replaceWork, replaceOut, replaceReport, bytesOut, partsOut, symbolsOut}
+use Rattle.format.specs.Unpack.{listOf}
 
 -- a buffer, how many trees it has, its part words and its symbols
-record Stored : Type 0 where
-  bytes : List ℕ
-  trees : ℕ
-  parts : List ℕ
-  symbols : List ℕ
+pub record Stored : Type 0 where
+  pub bytes : List ℕ
+  pub trees : ℕ
+  pub parts : List ℕ
+  pub symbols : List ℕ
 
-old : Stored → List ℕ
+unfoldable pub old : Stored → List ℕ
 unfolding listOf wordsUpTo ownReader judge placeOf treeWords treeAt afterSpan controlled spanAt symbolAt wordAt halfAt
 old s = listOf (s .bytes) (s .trees) (s .parts) (s .symbols)
 
@@ -62,7 +63,7 @@ module _ (s : Stored) (n : ℕ) (w : List ℕ) where
         ∷ symbolsOut (s .bytes) (s .trees) (s .parts) (s .symbols) n w a c d x y z
         ∷ []
 
-abbrev zeros : ℕ → List ℕ
+abbrev pub zeros : ℕ → List ℕ
 zeros n = replicate n 0
 
 -- ---- leaves by their words, and an Invisible root
@@ -81,18 +82,18 @@ abbrev rootOf : ℕ → List ℕ
 rootOf n = 3 ∷ n ∷ 3 ∷ 1 ∷ 0 ∷ 0 ∷ 0 ∷ 0 ∷ 2 ∷ 0 ∷ 0 ∷ 0 ∷ 0 ∷ []
 
 -- its bytes: its parts are i and i + 1 of the table, its descendants have so many bytes
-abbrev around : ℕ → ℕ → ℕ → List ℕ
+abbrev pub around : ℕ → ℕ → ℕ → List ℕ
 around i n kids =
     (4 * i) ∷ 0x40 ∷ 0 ∷ 0 ∷ 1 ∷ 0 ∷ 0 ∷ 0 ∷ 0 ∷ 0 ∷ 0 ∷ 0 ∷ 0x1D ∷ (4 * i + 4) ∷ 0x40 ∷ 0 ∷ 0 ∷ 1 ∷ 0 ∷ 0 ∷ 0 ∷ 0 ∷ 0 ∷ 0 ∷ 0 ∷ n ∷ 0 ∷ 0 ∷ 0 ∷ kids ∷ 0 ∷ 0 ∷ 0 ∷ []
 
-abbrev files : List ℕ → List ℕ
+abbrev pub files : List ℕ → List ℕ
 files [] = []
 files (f ∷ fs) = f ∷ 0 ∷ 0 ∷ files fs
 
 -- ---- an ident in the root
 
 -- symbol 100, file 7, start 10, length 1: in hex 2 + 1 × 40 + A × 8000 = 50042, then symbol 0
-abbrev one : Stored
+abbrev pub one : Stored
 one =
     record {
       bytes = around 1 1 5 ++ (0x42 ∷ 0x00 ∷ 0x05 ∷ 0x00 ∷ 0x00 ∷ []);
@@ -143,7 +144,7 @@ another-sort = (refl, refl, refl)
 -- ---- what is around
 
 -- two idents: part and symbol of the second have index 1
-abbrev two : Stored
+abbrev pub two : Stored
 two =
     record {
       bytes = around 2 2 10 ++ (0x42 ∷ 0x00 ∷ 0x05 ∷ 0x00 ∷ 0x00 ∷ 0x46 ∷ 0x00 ∷ 0x06 ∷ 0x00 ∷ 0x04 ∷ []);
@@ -161,7 +162,7 @@ unfolding asked new fresh
 others-move = (refl, refl, refl)
 
 -- an ident in parentheses, open 5, close 8
-abbrev nested : Stored
+abbrev pub nested : Stored
 nested =
     record {
       bytes = around 1 2 12 ++ (0xC0 ∷ 0x80 ∷ 0x02 ∷ 0x00 ∷ 0x00 ∷ 0x01 ∷ 0x05 ∷ 0x42 ∷ 0x00 ∷ 0x05 ∷ 0x00 ∷ 0x00 ∷ []);
@@ -207,7 +208,7 @@ sixteenth = refl
 -- ---- loose bytes over loose tables
 
 -- file 5 and symbol 50 are not used, file 7 and symbol 100 stand twice and are named by the second; eight bytes for the span, two for the symbol
-abbrev loose : Stored
+abbrev pub loose : Stored
 loose =
     record {
       bytes = around 3 1 10 ++ (0x4A ∷ 0x40 ∷ 0x05 ∷ 0x00 ∷ 0x00 ∷ 0x00 ∷ 0x00 ∷ 0x00 ∷ 0x0A ∷ 0x00 ∷ []);

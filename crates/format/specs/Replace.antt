@@ -1,9 +1,9 @@
 -- `set_token` (document 02, ticket 1): the list of an admitted buffer with one leaf exchanged, written over tables made afresh.
-use Prim.Native.Nat.{ℕ, _+_, _*_, _<_}
+use Prim.Native.Nat.{ℕ, _*_, _<_}
 use mathlib.Core.Bool.{Bool, not, _&&_}
 use mathlib.Core.Path.{_≡_}
 use mathlib.Core.List.{List}
-use lib.ListN.{length, drop}
+use lib.ListN.{length}
 use lib.Dec.{ltb, leb}
 use Rattle.format.specs.Verdict.{Verdict, passed, refused, _andThen_, contents, rule}
 use Rattle.format.specs.Word.{put}
@@ -12,20 +12,10 @@ use Rattle.format.specs.Reader.{Reader}
 use Rattle.format.specs.Plain.{sub}
 use Rattle.format.specs.Check.{Admitted, listing}
 use Rattle.format.specs.Buffer.{wordShape, ownReader, bufferCheck}
-use Rattle.format.specs.WordList.{wordsUpTo}
 use Rattle.format.specs.MakeTables.{partTable, symbolTable, partTotal}
 use Rattle.format.specs.Writer.{packed}
 use Rattle.format.specs.Builder.{leafWords, leafFits}
-
--- "work words fewer than 32 × trees + 32": in three runs, for the list, for the tables, for counts and then sizes
-abbrev pub listWork : ℕ → ℕ
-listWork k = 16 * k + 16
-
-abbrev pub tableWork : ℕ → ℕ
-tableWork k = 10 * k + 10
-
-abbrev pub countWork : ℕ → ℕ
-countWork k = 6 * k + 6
+use Rattle.format.specs.Unpack.{listOf, workFits}
 
 -- "the written form of that list .. over tables made afresh by document 01's order"
 abbrev pub freshBytes : List ℕ → List ℕ
@@ -47,10 +37,6 @@ reportOf l passed = replaced (length (freshBytes l)) (partTotal l) (length (symb
 reportOf l (refused r m) = refusal r m
 
 module _ (b : List ℕ) (k : ℕ) (parts symbols : List ℕ) where
-  -- "The source list is that of an admitted buffer": its words
-  unfoldable pub listOf : List ℕ
-  listOf = wordsUpTo (listing wordShape (ownReader b k parts symbols) .tree) k
-
   -- not "a tree number at or past the tree count or of a subtree"
   unfoldable pub isLeaf : ℕ → Bool
   isLeaf n = ltb n k && not (sub wordShape (listing wordShape (ownReader b k parts symbols)) n)
@@ -59,7 +45,7 @@ module _ (b : List ℕ) (k : ℕ) (parts symbols : List ℕ) where
   module _ (n : ℕ) (w : List ℕ) where
     -- "that list with one leaf exchanged"
     unfoldable pub exchanged : List ℕ
-    exchanged = put listOf (treeSize * n) (leafWords w)
+    exchanged = put (listOf b k parts symbols) (treeSize * n) (leafWords w)
 
     -- "Checks: the buffer's own check first, then 10 .., 2 for a bad leaf, both at that number"
     unfoldable pub replaceVerdict : Verdict
@@ -68,7 +54,7 @@ module _ (b : List ℕ) (k : ℕ) (parts symbols : List ℕ) where
     -- "then 6": first the work words, by how many there are in each run
     module _ (a c d : ℕ) where
       unfoldable pub replaceWork : Verdict
-      replaceWork = replaceVerdict andThen rule (leb (listWork k) a && leb (tableWork k) c && leb (countWork k) d) 6 0
+      replaceWork = replaceVerdict andThen rule (workFits k a c d) 6 0
 
       -- "an output run too short"
       module _ (out outParts outSymbols : List ℕ) where
@@ -87,11 +73,6 @@ module _ (b : List ℕ) (k : ℕ) (parts symbols : List ℕ) where
 
         abbrev pub symbolsOut : List ℕ
         symbolsOut = contents replaceOut outSymbols (put outSymbols 0 (symbolTable exchanged))
-
--- what a run of work words holds then, v being the verdict up to their own 6: "open", but all of it stays where v refuses, and else what lies past its share
-pub record WorkLeft (v : Verdict) (share : ℕ) (old new : List ℕ) : Type 0 where
-  pub kept : new ≡ contents v old new
-  pub behind : drop share new ≡ drop share old
 
 -- what it is for: the new buffer over the new tables is admitted, with as many trees; tree n is the new leaf, and every other one, the root among them, what it was
 pub record LeafOnly (old new : Reader (List ℕ)) (n : ℕ) (w : List ℕ) : Type 0 where

@@ -12,7 +12,8 @@ use Rattle.format.specs.Width.{partSize}
 use Rattle.format.specs.Buffer.{ownReader, bufferCheck}
 use Rattle.format.specs.MakeTables.{partTable, symbolTable, partTotal}
 use Rattle.format.specs.Builder.{leafWords}
-use Rattle.format.specs.Replace.{listWork, tableWork, countWork, freshBytes, listOf, exchanged, replaceVerdict, replaceWork, replaceOut, reportOf, LeafOnly}
+use Rattle.format.specs.Replace.{freshBytes, exchanged, replaceVerdict, replaceWork, replaceOut, reportOf, LeafOnly}
+use Rattle.format.specs.Unpack.{listWork, tableWork, countWork, listOf}
 use Rattle.format.proofs.TableLaw.{part-words}
 use Rattle.format.proofs.TableRuns.{run-take, run-drop}
 use Rattle.format.proofs.Exchange.{replace-passes, replace-list, leaf-only, work-room, out-room, ReplaceRow, refused-row, row-refused}

@@ -15,7 +15,8 @@ use Rattle.format.specs.Write.{workWords}
 use Rattle.format.specs.WordList.{listCount, listRows}
 use Rattle.format.specs.Writer.{listVerdict, packed, trees, workVerdict, writerVerdict}
 use Rattle.format.specs.MakeTables.{keysOf, partTable, partCounts, symbolTable, symbolCounts, partTotal}
-use Rattle.format.specs.Replace.{tableWork, countWork, freshBytes, outFits, refusal}
+use Rattle.format.specs.Replace.{freshBytes, outFits, refusal}
+use Rattle.format.specs.Unpack.{tableWork, countWork}
 use Rattle.format.proofs.Each.{true-false, and-left, and-right, rule-passed, rule-refused}
 use Rattle.format.proofs.Kept.{kept}
 use Rattle.format.proofs.OwnTables.{own-passes}

@@ -1,14 +1,13 @@
 -- One law for each return of the functions of src/judge.rt and src/report.rt, with premises as the code's tests and calls give them.
-use Prim.Native.Nat.{ℕ, _+_, _*_, _<_, _≤_}
-use mathlib.Core.Bool.{Bool, true, false, not, _&&_}
+use Prim.Native.Nat.{ℕ}
+use mathlib.Core.Bool.{Bool, true, false, not}
 use mathlib.Core.Path.{_≡_, refl, sym, ap, _∙_}
 use mathlib.Core.List.{List}
-use borrow.Author.Tests.{le-leb, lt-leb, not-true, not-false}
-use lib.Dec.{leb}
+use borrow.Author.Tests.{not-true, not-false}
 use Rattle.format.specs.Verdict.{passed, refused}
 use Rattle.format.specs.Buffer.{bufferCheck}
 use Rattle.format.specs.Builder.{leafFits}
-use Rattle.format.specs.Replace.{listWork, tableWork, countWork, isLeaf, replaceVerdict, refusal}
+use Rattle.format.specs.Replace.{isLeaf, replaceVerdict, refusal}
 use Rattle.tree.specs.Refusal.{verdictAnswer}
 use Rattle.tree.specs.declared.refusal.Refusal.{Refusal}
 use Rattle.tree.specs.declared.refusal.Verdict.{Verdict as Answer}
@@ -52,22 +51,3 @@ module _ (b : List ℕ) (k : ℕ) (parts symbols : List ℕ) (n : ℕ) (w : List
       sym q ∙ e ∙ ap verdictAnswer (v ∙ rw v)
 
 pub ruleset judge-cases = (number-10, leaf-2, leaf-passed, check-passed, check-refused)
-
--- ---- the work words
-
-module _ (k a c d p : ℕ) (e : p ≡ k) where
-  pub list-short : a < 16 * p + 16 → false ≡ (leb (listWork k) a && leb (tableWork k) c && leb (countWork k) d)
-  list-short h = rw (← e) (simp (lt-leb _ _ h))
-
-  module _ (i : 16 * p + 16 ≤ a) where
-    pub tables-short : c < 10 * p + 10 → false ≡ (leb (listWork k) a && leb (tableWork k) c && leb (countWork k) d)
-    tables-short h = rw (← e) (simp (le-leb _ _ i, lt-leb _ _ h))
-
-    module _ (j : 10 * p + 10 ≤ c) where
-      pub counts-short : d < 6 * p + 6 → false ≡ (leb (listWork k) a && leb (tableWork k) c && leb (countWork k) d)
-      counts-short h = rw (← e) (simp (le-leb _ _ i, le-leb _ _ j, lt-leb _ _ h))
-
-      pub all-fit : 6 * p + 6 ≤ d → true ≡ (leb (listWork k) a && leb (tableWork k) c && leb (countWork k) d)
-      all-fit h = rw (← e) (simp (le-leb _ _ i, le-leb _ _ j, le-leb _ _ h))
-
-pub ruleset work-cases = (list-short, tables-short, counts-short, all-fit)

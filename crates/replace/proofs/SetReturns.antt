@@ -12,8 +12,8 @@ use Rattle.format.specs.Word.{put}
 use Rattle.format.specs.Width.{treeSize}
 use Rattle.format.specs.Buffer.{bufferCheck}
 use Rattle.format.specs.WordList.{listCount, listRows}
-use Rattle.format.specs.Replace.{listWork, tableWork, countWork, refusal, listOf, exchanged, replaceVerdict, replaceWork, replaceOut, WorkLeft}
-use Rattle.format.proofs.Each.{and₃}
+use Rattle.format.specs.Replace.{refusal, exchanged, replaceVerdict, replaceWork, replaceOut}
+use Rattle.format.specs.Unpack.{listWork, tableWork, countWork, workFits, listOf, WorkLeft}
 use Rattle.format.proofs.Kept.{kept}
 use Rattle.format.proofs.Put.{put-length, put-behind, take-put}
 use Rattle.format.proofs.TableRuns.{run-take}
@@ -29,6 +29,7 @@ use Rattle.replace.specs.Fresh.{outRow, Outputs, Freshly}
 use Rattle.replace.specs.Replaced.{ListPut, worked, Replaced}
 use Rattle.replace.specs.declared.report.ReplaceReport.{ReplaceReport}
 use Rattle.replace.specs.declared.report.ReplaceReport.the-variants as answers
+use Rattle.unpack.proofs.WorkReturns.{work-ample}
 use Rattle.builder.proofs.Pushed.{words-whole}
 
 -- ---- the new list in work words
@@ -137,12 +138,6 @@ pub rows-passed : (b : List ℕ) (k : ℕ) (parts symbols : List ℕ) (n : ℕ) 
     → replaceVerdict b k parts symbols n w ≡ passed
 rows-passed b k parts symbols n w v e q = answer-passed (replaceVerdict b k parts symbols n w) (sym e ∙ q)
 
-pub work-ample : (k a c d : ℕ) (u : Bool) → u ≡ (leb (listWork k) a && leb (tableWork k) c && leb (countWork k) d) → not u ≡ false
-    → (listWork k ≤ a) × (tableWork k ≤ c) × (countWork k ≤ d)
-work-ample k a c d u g f =
-    let j = and₃ (leb (listWork k) a) (leb (tableWork k) c) (leb (countWork k) d) (sym g ∙ not-false u f) in
-    (leb-true _ _ (j .0), leb-true _ _ (j .1), leb-true _ _ (j .2))
-
 module _ (b : List ℕ) (k : ℕ) (parts symbols : List ℕ) (n : ℕ) (w a c d x y z : List ℕ) where
   abbrev Rest : ReplaceReport → Type 0
   Rest r = Replaced b k parts symbols n w a c d x y z r a c d x y z
@@ -170,12 +165,12 @@ module _ (b : List ℕ) (k : ℕ) (parts symbols : List ℕ) (n : ℕ) (w a c d 
         none-changed (why .number) (why .tree) (rw f)
 
     module _ (q : v ≡ Passed) where
-      module _ (u : Bool) (g : u ≡ (leb (listWork k) (length a) && leb (tableWork k) (length c) && leb (countWork k) (length d))) where
+      module _ (u : Bool) (g : u ≡ workFits k (length a) (length c) (length d)) where
         pub work-short : not u ≡ true → (r : ReplaceReport) → r ≡ replaceAnswer (refusal 6 0) → Rest r
         unfolding replaceWork replaceAnswer
         work-short f r i =
             let o = rows-passed b k parts symbols n w v e q in
-            let j : (leb (listWork k) (length a) && leb (tableWork k) (length c) && leb (countWork k) (length d)) ≡ false = sym g ∙ not-true u f in
+            let j : workFits k (length a) (length c) (length d) ≡ false = sym g ∙ not-true u f in
             subst Rest (sym i) (none-changed 6 0 (simp (o, j)))
 
 pub ruleset set-cases = (rows-refused, rows-passed, work-short, work-ample, kept)

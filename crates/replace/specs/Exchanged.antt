@@ -7,7 +7,8 @@ use Rattle.format.specs.Width.{partSize}
 use Rattle.format.specs.Buffer.{ownReader, bufferCheck}
 use Rattle.format.specs.MakeTables.{partTable, symbolTable}
 use Rattle.format.specs.Builder.{leafWords}
-use Rattle.format.specs.Replace.{freshBytes, listOf, exchanged, LeafOnly}
+use Rattle.format.specs.Replace.{freshBytes, exchanged, LeafOnly}
+use Rattle.format.specs.Unpack.{listOf}
 use Rattle.tree.specs.Refusal.{verdictAnswer}
 use Rattle.tree.specs.declared.refusal.Verdict.{Verdict}
 use Rattle.tree.specs.declared.refusal.Verdict.the-variants.{Passed}

@@ -11,7 +11,8 @@ use Rattle.format.specs.Word.{put}
 use Rattle.format.specs.Width.{partSize}
 use Rattle.format.specs.WordList.{listCount}
 use Rattle.format.specs.MakeTables.{partTable, symbolTable, symbolCounts, partTotal}
-use Rattle.format.specs.Replace.{tableWork, countWork, freshBytes, outFits, reportOf}
+use Rattle.format.specs.Replace.{freshBytes, outFits, reportOf}
+use Rattle.format.specs.Unpack.{tableWork, countWork}
 use Rattle.tree.specs.declared.refusal.Report.{Report}
 use Rattle.tree.specs.declared.refusal.Report.the-variants as reports
 use Rattle.writer.specs.Written.{Written}

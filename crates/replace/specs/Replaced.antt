@@ -5,7 +5,8 @@ use mathlib.Core.List.{List}
 use lib.ListN.{length, take, drop}
 use Rattle.format.specs.Verdict.{Verdict}
 use Rattle.format.specs.Width.{treeSize}
-use Rattle.format.specs.Replace.{listWork, tableWork, countWork, exchanged, replaceWork, replaceReport, bytesOut, partsOut, symbolsOut, WorkLeft}
+use Rattle.format.specs.Replace.{exchanged, replaceWork, replaceReport, bytesOut, partsOut, symbolsOut}
+use Rattle.format.specs.Unpack.{listWork, tableWork, countWork, WorkLeft}
 use Rattle.replace.specs.Report.{replaceAnswer}
 use Rattle.replace.specs.declared.report.ReplaceReport.{ReplaceReport}
 

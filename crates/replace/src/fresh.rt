@@ -17,7 +17,7 @@ ghost use Rattle.format.specs.Verdict.{passed};
 ghost use Rattle.format.specs.WordList.{listCount, listRows};
 ghost use Rattle.format.specs.Writer.{listVerdict};
 ghost use Rattle.format.specs.MakeTables.{partTable, symbolTable};
-ghost use Rattle.format.specs.Replace.{tableWork, countWork};
+ghost use Rattle.format.specs.Unpack.{tableWork, countWork};
 ghost use Rattle.replace.specs.Fresh.{symbolsAt, SymbolsMade, Held, Tabled};
 ghost use Rattle.replace.specs.Fresh.{TablePut, tablesOf, OutputsPut, Put, Freshly};
 

@@ -1,7 +1,6 @@
 // `set_token`: tree number and new leaf in, new buffer and new tables out.
 use crate::fresh::write_fresh;
 use crate::judge::replace_verdict;
-use crate::judge::work_fits;
 use crate::report::ReplaceReport;
 use crate::report::short;
 use builder::range::leaf_words;
@@ -10,12 +9,14 @@ use tree::refusal::Verdict;
 use tree::types::Leaf;
 use tree::unchecked::put_words;
 use unpack::list::unpack;
+use unpack::work::work_fits;
 use width::TREE_WORDS;
 ghost use mathlib.Core.Path.{_≡_};
 ghost use Prim.Native.Nat.{_≤_};
 ghost use lib.ListN.{length};
 ghost use Rattle.format.specs.Verdict.{passed};
-ghost use Rattle.format.specs.Replace.{listWork, tableWork, countWork, replaceVerdict};
+ghost use Rattle.format.specs.Replace.{replaceVerdict};
+ghost use Rattle.format.specs.Unpack.{listWork, tableWork, countWork};
 ghost use Rattle.builder.specs.Given.{pushed};
 ghost use Rattle.replace.specs.Replaced.{ListPut, Replaced};
 

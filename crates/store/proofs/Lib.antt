@@ -1,1 +1,2 @@
 pub mod SetReturns
+pub mod TidyReturns

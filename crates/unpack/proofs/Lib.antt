@@ -1,2 +1,4 @@
+pub mod WordsReturns
 pub mod ListReturns
 pub mod LeafReturns
+pub mod WorkReturns

@@ -12,55 +12,73 @@ use Rattle.format.specs.Verdict.{passed}
 use Rattle.format.specs.Word.{put}
 use Rattle.format.specs.Width.{partSize, treeSize}
 use Rattle.format.specs.Reader.{Reader, Reply, got, bad}
-use Rattle.format.specs.Tables.{Mode, ownLimits, ownMode}
+use Rattle.format.specs.Tree.{treeAt}
+use Rattle.format.specs.Fields.{fields}
+use Rattle.format.specs.Tables.{Mode, rowEight, treeWords, ownLimits, ownMode}
 use Rattle.format.specs.Check.{check, nextOf, treeOf, placeOf, reading, listing}
-use Rattle.format.specs.Buffer.{wordShape, ownReader, bufferCheck}
+use Rattle.format.specs.Buffer.{judge, wordShape, ownReader, bufferCheck}
 use Rattle.format.specs.WordList.{wordsUpTo}
-use Rattle.format.specs.Replace.{listOf}
+use Rattle.format.specs.Unpack.{listOf}
 use Rattle.format.proofs.CheckLaw.{next-place}
 use Rattle.format.proofs.Each.{and-right}
 use Rattle.format.proofs.Own.{own-sound}
 use Rattle.format.proofs.ListOf.{words-length, mode-whole}
 use Rattle.pack.proofs.Store.{put-put, put-none}
-use Rattle.tree.specs.Types.{treeWordsOf}
+use Rattle.tree.specs.Raw.{rawOf, rawAnswer}
 use Rattle.tree.specs.Mode.{limitsOf, modeOf, Whole}
 use Rattle.tree.specs.declared.limits.Limits.{Limits}
 use Rattle.tree.proofs.OwnMode.{pairOf, own-whole, own-mode}
-use Rattle.decode.specs.Decode.{treeAnswer, readIn}
-use Rattle.decode.specs.declared.decode.TreeAt.{TreeAt}
-use Rattle.decode.specs.declared.decode.TreeRead.{TreeRead}
-use Rattle.decode.specs.declared.decode.TreeRead.the-variants.{Got, Refused}
-use Rattle.decode.proofs.DecodeUse.{decoded-got, decoded-refused, worded, decoded-words}
+use Rattle.tree.specs.declared.raw.RawAt.{RawAt}
+use Rattle.tree.specs.declared.raw.RawRead.{RawRead}
+use Rattle.tree.specs.declared.raw.RawRead.the-variants.{Got, Bad}
+use Rattle.tree.proofs.TypesWords.{resolved-words}
+use Rattle.decode.specs.Judge.{limitRules}
+use Rattle.decode.specs.Decode.{readIn}
+use Rattle.decode.proofs.JudgeUse.{judged-passed}
+use Rattle.decode.proofs.DecodeUse.{worded, decoded-words, sized-refused, sized-got}
 use Rattle.unpack.specs.List.{readerIn, readAt, wordsRead, listIn}
 
 -- ---- put_tree
 
-module _ (b : List ℕ) (M : Mode) (n at : ℕ) (r : TreeRead) (e : r ≡ treeAnswer (readIn b M n at)) where
+module _ (b : List ℕ) (N : Limits) (parts pair symbols : List ℕ) (w : Whole N parts pair symbols) (n at : ℕ) (r : RawRead)
+    (e : r ≡ rawAnswer (judge (λ n t. t) (limitRules (limitsOf N)) n at (treeAt b at))) where
+  abbrev M : Mode
+  M = modeOf N parts pair symbols
+
   worded-here : worded (readIn b M n at) ≡ readAt b M n at
   unfolding readAt
   worded-here = decoded-words M n at b 0
 
-  module _ (j : ℕ) (q : r ≡ Refused j) where
+  module _ (j : ℕ) (q : r ≡ Bad j) where
     here-bad : readAt b M n at ≡ bad j
-    here-bad = sym worded-here ∙ ap worded (decoded-refused (readIn b M n at) r e j q)
+    here-bad = sym worded-here ∙ ap worded (sized-refused b N parts pair symbols w n at r e j q)
 
-    pub bad-next : 0 ≡ nextOf (readAt b M n at)
+    pub bad-next : 0 ≡ nextOf (readAt b (modeOf N parts pair symbols) n at)
     bad-next = sym (ap nextOf here-bad)
 
-    pub bad-words : (l : List ℕ) (at′ : ℕ) → l ≡ put l at′ (wordsRead (readAt b M n at))
+    pub bad-words : (l : List ℕ) (at′ : ℕ) → l ≡ put l at′ (wordsRead (readAt b (modeOf N parts pair symbols) n at))
     bad-words l at′ = sym (ap (λ z. put l at′ (wordsRead z)) here-bad ∙ put-none l at′)
 
-  module _ (y : TreeAt) (q : r ≡ Got y) where
-    here-got : readAt b M n at ≡ got (treeWordsOf (y .tree)) (y .next) (y .children .0)
-    here-got = sym worded-here ∙ ap worded (decoded-got (readIn b M n at) r e y q)
+  module _ (y : RawAt) (q : r ≡ Got y) where
+    pub here-fits : fields (rawOf (y .tree)) ≡ true
+    here-fits = judged-passed b (limitRules (limitsOf N)) n at r e y q .fits
 
-    pub got-next : y .next ≡ nextOf (readAt b M n at)
+    pub here-row : rowEight (limitsOf N) n (rawOf (y .tree)) ≡ 0
+    here-row = judged-passed b (limitRules (limitsOf N)) n at r e y q .row
+
+    here-got : readAt b M n at ≡ got (treeWords M n (rawOf (y .tree))) (y .next) (y .children .0)
+    here-got =
+        sym worded-here ∙ ap worded (sized-got b N parts pair symbols w n at r e y q)
+        ∙ ap (λ (z : List ℕ). got z (y .next) (y .children .0)) (resolved-words M n (rawOf (y .tree)) here-fits)
+
+    pub got-next : y .next ≡ nextOf (readAt b (modeOf N parts pair symbols) n at)
     got-next = sym (ap nextOf here-got)
 
-    pub got-words : (l l′ ws : List ℕ) (p : ℕ) → p ≡ n → ws ≡ treeWordsOf (y .tree) → l′ ≡ put l (treeSize * p) ws → l′ ≡ put l (treeSize * n) (wordsRead (readAt b M n at))
+    pub got-words : (l l′ ws : List ℕ) (p : ℕ) → p ≡ n → ws ≡ treeWords (modeOf N parts pair symbols) n (rawOf (y .tree)) → l′ ≡ put l (treeSize * p) ws
+        → l′ ≡ put l (treeSize * n) (wordsRead (readAt b (modeOf N parts pair symbols) n at))
     got-words l l′ ws p f g h = h ∙ ap (λ (i : ℕ). put l (treeSize * i) ws) f ∙ ap (put l (treeSize * n)) (g ∙ sym (ap wordsRead here-got))
 
-pub ruleset tree-cases = (bad-next, bad-words, got-next, got-words)
+pub ruleset tree-cases = (bad-next, bad-words, here-fits, here-row, got-next, got-words)
 
 -- ---- unpack_in
 

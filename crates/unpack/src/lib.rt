@@ -1,3 +1,6 @@
-// What a buffer that the check has passed holds: its list in lent words, and the sort of one tree.
+// What a buffer that the check has passed holds: its list in lent words, how many these must be, and the sort of one
+// tree.
 pub mod leaf;
 pub mod list;
+mod words;
+pub mod work;

@@ -1,11 +1,11 @@
 // The list of a checked buffer in lent words.
-use decode::decode::TreeRead;
-use decode::decode::decode_in;
+use crate::words::raw_words;
+use decode::judge::tree_in;
 use tree::limits::Limits;
 use tree::limits::own_limits;
+use tree::raw::RawRead;
 use tree::raw::place;
 use tree::unchecked::put_words;
-use tree::words::tree_words;
 use width::PART_WORDS;
 use width::TREE_WORDS;
 ghost use mathlib.Core.Path.{_≡_};
@@ -16,7 +16,7 @@ ghost use Rattle.format.specs.Word.{put};
 ghost use Rattle.format.specs.Width.{treeSize};
 ghost use Rattle.format.specs.Check.{check, nextOf};
 ghost use Rattle.format.specs.Buffer.{wordShape, bufferCheck};
-ghost use Rattle.format.specs.Replace.{listOf};
+ghost use Rattle.format.specs.Unpack.{listOf};
 ghost use Rattle.tree.specs.Mode.{modeOf, Whole};
 ghost use Rattle.unpack.specs.List.{readerIn, readAt, wordsRead, listIn};
 
@@ -38,13 +38,13 @@ fn put_tree(
     ensures words { λ _. ⌜ now (list .exit) ≡ put (now (list .entry)) (treeSize * n) (wordsRead (readAt (now (b .entry))
         (modeOf limits (now (parts .entry)) (now (pair .entry)) (now (symbols .entry))) n at)) ⌝ }
 {
-    let read = decode_in(b, limits, parts, pair, symbols, n, at);
-    let TreeRead::Got(here) = read else {
+    let read = tree_in(b, limits, n, at);
+    let RawRead::Got(here) = read else {
         // Not in a buffer that the check has passed.
         return 0;
     };
     let tree = here.tree;
-    let words = tree_words(tree);
+    let words = raw_words(limits, parts, pair, symbols, n, tree);
     put_words(list, TREE_WORDS * place(n), &words);
     here.next
 }

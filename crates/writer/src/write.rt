@@ -387,8 +387,15 @@ fn write_ruled(
     write_by_size(l, limits, parts, pair, symbols, work, out)
 }
 
-// Over a part table whose last two are the root's, behind row 1.
-fn write_own(l: &[u32], parts: &[u32], symbols: &[u32], work: &mut [u32], out: &mut [u8]) -> Report
+// Over a part table whose last two are the root's, behind rows 1 to 4, which the caller has asked or knows to be
+// silent. The root is taken to hold all others.
+pub fn write_own(
+    l: &[u32],
+    parts: &[u32],
+    symbols: &[u32],
+    work: &mut [u32],
+    out: &mut [u8],
+) -> Report
     requires { ⌜ (listSized (now l) && ownTables (now parts) (now symbols) .sized) ≡ true ⌝ }
     requires { ⌜ listRules (holdingAll (now l)) ≡ passed ⌝ }
     ensures { λ r. ⌜ Written (now (parts .entry)) (now (symbols .entry)) (holdingAll (now (l .entry)))

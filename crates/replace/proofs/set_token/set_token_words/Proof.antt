@@ -1,11 +1,12 @@
 use borrow.Author.Needs.{needs}
-use Rattle.replace.proofs.SetReturns.{set-cases, rows-passed, work-ample}
+use Rattle.unpack.proofs.WorkReturns.{work-ample}
+use Rattle.replace.proofs.SetReturns.{set-cases, rows-passed}
 use Rattle.replace.proofs.set_token.set_token_words.Statement.{statement}
 use Rattle.replace.proofs.set_token.set_token_words.Tie as tie
 use Rattle.replace.proofs.set_token.set_token_words.Reads as reads
 use Rattle.replace.proofs.set_token.set_token_words.Lts as lts
 use Rattle.replace.proofs.judge.replace_verdict.Reads as replace-verdict-reads
-use Rattle.replace.proofs.judge.work_fits.Reads as work-fits-reads
+use Rattle.unpack.proofs.work.work_fits.Reads as work-fits-reads
 use Rattle.replace.proofs.report.short.Reads as short-reads
 use Rattle.replace.proofs.set_token.exchange.Reads as exchange-reads
 

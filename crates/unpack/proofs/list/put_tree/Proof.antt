@@ -3,8 +3,8 @@ use Rattle.unpack.proofs.ListReturns.{tree-cases}
 use Rattle.unpack.proofs.list.put_tree.Statement.{statement}
 use Rattle.unpack.proofs.list.put_tree.Tie as tie
 
-decode-in-requires : tie.Need-decode-in-requires
-decode-in-requires c κs = search (needs, tree-cases)
+tree-in-requires : tie.Need-tree-in-requires
+tree-in-requires c κs = search (needs, tree-cases)
 
 enum-known-read : tie.Need-enum-known-read
 enum-known-read c = search (needs, tree-cases)
@@ -15,8 +15,8 @@ enum-told c = search (needs, tree-cases)
 returns : tie.Need-returns
 returns c = search (needs, tree-cases)
 
-tree-words-requires : tie.Need-tree-words-requires
-tree-words-requires c κs = search (needs, tree-cases)
+raw-words-requires : tie.Need-raw-words-requires
+raw-words-requires c κs = search (needs, tree-cases)
 
 place-requires : tie.Need-place-requires
 place-requires c κs = search (needs, tree-cases)
@@ -40,11 +40,11 @@ pub put-tree-spec : {M : Type 1} → statement M
 put-tree-spec =
     tie.close
     (tie.spec
-    decode-in-requires
+    tree-in-requires
     enum-known-read
     enum-told
     returns
-    tree-words-requires
+    raw-words-requires
     place-requires
     mul-put-words
     slice-aggregate-put-words
