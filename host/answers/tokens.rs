@@ -1,25 +1,13 @@
 //! One leaf of a stored buffer exchanged: the source's new list, and its tables as sets.
 use crate::maker::{Maker, loose};
 use crate::plain_list;
+use crate::stored::{Stored, few_tables};
 use crate::tally::panics;
 use crate::text::Text;
 use crate::words;
 use tt::{TokenTree, TopSubtree};
 
 const SMALL: usize = 12;
-
-/// So many trees, the parts and the symbols that their indices lead to, the bytes.
-fn stored(text: &mut Text, trees: usize, bytes: &[u8], parts: &[u32], symbols: &[u32]) -> TopSubtree {
-    text.line("buffer");
-    text.number(trees);
-    text.number(parts.len() / 3);
-    text.numbers(parts);
-    text.number(symbols.len());
-    text.numbers(symbols);
-    text.bytes(bytes);
-    let part_list: Vec<[u32; 3]> = parts.chunks(3).map(|w| [w[0], w[1], w[2]]).collect();
-    TopSubtree::of(trees, bytes, &part_list, symbols)
-}
 
 /// The tree number and the leaf; `!`, or `t`, the list, the parts below the root, sorted, with the root's two behind them, the symbols, sorted.
 fn exchanged(text: &mut Text, top: &TopSubtree, number: u32, leaf: &[u32; 13]) {
@@ -77,26 +65,16 @@ fn some(text: &mut Text, m: &mut Maker, top: &TopSubtree, list: &[u32], times: u
 
 /// The source's buffer of a list over its own tables, or one in any form over tables in any order with more entries than are used.
 fn one(text: &mut Text, m: &mut Maker, list: &[u32], own: bool, times: usize) {
-    let top = TopSubtree::from_serialized(list.chunks(13).map(words::tree).collect());
-    let trees = list.len() / 13;
-    let top = if own {
-        stored(text, trees, top.bytes(), &top.part_list().concat(), &top.symbol_list())
+    let stored = if own {
+        Stored::own(list)
     } else {
         let (parts, symbols) = few_tables(m, list);
         let indexed = plain_list::trees(list, &parts, &symbols).expect("a list that rows 1 to 5 pass");
         let bytes = plain_list::bytes(&indexed, &mut || loose(&mut m.r)).bytes;
-        stored(text, trees, &bytes, &parts, &symbols)
+        Stored { trees: list.len() / 13, parts, symbols, bytes }
     };
-    some(text, m, &top, list, times);
-}
-
-fn few_tables(m: &mut Maker, list: &[u32]) -> (Vec<u32>, Vec<u32>) {
-    loop {
-        let (parts, symbols) = m.tables_for(list);
-        if parts.len() <= 3 * 40 && symbols.len() <= 70 {
-            return (parts, symbols);
-        }
-    }
+    stored.line(text, "buffer");
+    some(text, m, &stored.source(), list, times);
 }
 
 /// A root around idents: so many, each with a part, a symbol or both of its own, and one that has the first one's.
@@ -110,9 +88,9 @@ fn flat(entries: u32, parts: bool, symbols: bool) -> Vec<u32> {
 
 /// An entry more in the table, as many, one less.
 fn grown_and_shrunk(text: &mut Text, list: &[u32]) {
-    let top = TopSubtree::from_serialized(list.chunks(13).map(words::tree).collect());
-    let trees = list.len() / 13;
-    let top = stored(text, trees, top.bytes(), &top.part_list().concat(), &top.symbol_list());
+    let (stored, trees) = (Stored::own(list), list.len() / 13);
+    stored.line(text, "buffer");
+    let top = stored.source();
     let new = [1, 99, 1, 99, 1, 1, 7, 3, 0, 0, 0, 0, 0];
     exchanged(text, &top, trees as u32 - 1, &new);
     exchanged(text, &top, 2, &new);

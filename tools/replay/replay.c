@@ -13,7 +13,7 @@ enum { TREES = 300, PARTS = 2 * TREES, BYTES = 33 * TREES, NOISE = 0xAA };
 enum { SEEN = 13 + 3 };
 
 /* The list of the last line `list`, with its tables, its bytes, or those of the last line `loose`; or the buffer of the last line
- * `buffer`. */
+ * `buffer` or `damaged`. */
 static uint32_t list[13 * TREES], parts[3 * PARTS], symbols[TREES];
 static size_t trees, part_count, symbol_count;
 static uint8_t bytes[BYTES];
@@ -292,13 +292,20 @@ static void spans(void) {
     held(same && memcmp(changed_parts, parts, below * sizeof *parts) == 0, "root's spans");
 }
 
-/* ---- one leaf exchanged */
+/* ---- stored buffers */
 
-static void read_buffer(void) {
+static void read_stored(void) {
     trees = stored_count(TREES);
     read_tables();
-    read_loose();
+    byte_count = stored_bytes(bytes, BYTES);
 }
+
+static void read_buffer(void) {
+    read_stored();
+    held(passes(), "buffer checked");
+}
+
+/* ---- one leaf exchanged */
 
 /* What is written: longer than needed, with noise in it. */
 static struct {
@@ -375,6 +382,64 @@ static void token(void) {
     held(same, "leaf exchanged");
 }
 
+/* ---- buffers put in order */
+
+/* What is lent, with noise in it; some bytes more than are needed. */
+static struct tidy {
+    uint32_t list[TT_LIST_WORK(TREES)], tables[TT_TABLE_WORK(TREES)], counts[TT_COUNT_WORK(TREES)];
+    uint8_t bytes[BYTES + 8];
+} tidied, untouched;
+
+/* Exactly the work words that are due, and so much room. */
+static uint32_t put_in_order(const uint8_t *b, size_t len, size_t room, size_t *told) {
+    memset(&untouched, NOISE, sizeof untouched);
+    tidied = untouched;
+    return tt_tidy(b, len, (uint32_t)trees, parts, 3 * part_count, symbols, symbol_count, tidied.list, TT_LIST_WORK(trees),
+                   tidied.tables, TT_TABLE_WORK(trees), tidied.counts, TT_COUNT_WORK(trees), tidied.bytes, room, told);
+}
+
+/* Whether these bytes were written, and nothing behind them or behind the work words. */
+static bool written_alone(const uint8_t *b, size_t len) {
+    memcpy(untouched.bytes, b, len);
+    memcpy(untouched.list, tidied.list, TT_LIST_WORK(trees) * sizeof *tidied.list);
+    memcpy(untouched.counts, tidied.counts, TT_COUNT_WORK(trees) * sizeof *tidied.counts);
+    return memcmp(&tidied, &untouched, sizeof tidied) == 0;
+}
+
+/* These bytes read as the buffer does, and no span below the root is loose. */
+static bool reads_alike(const uint8_t *b, size_t len) {
+    size_t at[3] = {0, 0, trees}, at_other[3] = {0, 0, trees};
+    bool same = true;
+    for (size_t i = 0; i < trees; i++) {
+        uint32_t words[SEEN], others[SEEN];
+        same &= tt_walk(bytes, byte_count, (uint32_t)trees, parts, 3 * part_count, symbols, symbol_count, at[0], (uint32_t)at[1],
+                        (uint32_t)at[2], false, at, 3, words, SEEN) == 1;
+        same &= tt_walk(b, len, (uint32_t)trees, parts, 3 * part_count, symbols, symbol_count, at_other[0], (uint32_t)at_other[1],
+                        (uint32_t)at_other[2], false, at_other, 3, others, SEEN) == 1;
+        same &= memcmp(words, others, 13 * sizeof *words) == 0 && (i == 0 || (others[13] | others[14] | others[15]) == 0);
+    }
+    return same;
+}
+
+/* With room for no byte more; again, with room to spare; with room for one less. */
+static void tidy(void) {
+    static uint8_t want[BYTES];
+    size_t due = stored_bytes(want, BYTES), told[1];
+    bool same = put_in_order(bytes, byte_count, due, told) == 0 && told[0] == due && written_alone(want, due);
+    same = same && reads_alike(want, due);
+    same = same && put_in_order(want, due, sizeof tidied.bytes, told) == 0 && told[0] == due && written_alone(want, due);
+    same = same && put_in_order(bytes, byte_count, due - 1, told) == 6 && told[0] == 0 && written_alone(want, 0);
+    held(same, "buffer put in order");
+}
+
+static void damaged(void) {
+    read_stored();
+    uint32_t number = stored_number(), tree = stored_number();
+    size_t told[1];
+    bool same = put_in_order(bytes, byte_count, sizeof tidied.bytes, told) == number && told[0] == tree;
+    held(same && memcmp(&tidied, &untouched, sizeof tidied) == 0, "damaged buffer refused");
+}
+
 static const struct {
     const char *word;
     void (*run)(void);
@@ -382,7 +447,7 @@ static const struct {
     {"span", span},          {"unspan", unspan}, {"symbol", symbol}, {"unsymbol", unsymbol}, {"list", read_list},
     {"tables", read_tables}, {"bytes", written}, {"sizes", sizes},   {"counts", counts},     {"loose", read_loose},
     {"walk", walk},          {"last", last},     {"cursor", cursor}, {"kind", kind},         {"spans", spans},
-    {"buffer", read_buffer}, {"token", token},
+    {"buffer", read_buffer}, {"token", token},   {"tidy", tidy},     {"damaged", damaged},
 };
 
 int main(int argc, char **argv) {

@@ -1,4 +1,5 @@
-/* One leaf of a stored buffer of packed token trees exchanged. Link with libstore.a, which `rt staticlib store` writes (x86-64). */
+/* Stored buffers of packed token trees: one leaf exchanged, and a buffer put in order. Link with libstore.a, which `rt staticlib store`
+ * writes (x86-64). */
 #ifndef TT_STORE_H
 #define TT_STORE_H
 
@@ -36,6 +37,26 @@ uint32_t tt_set_token(const uint8_t *b, size_t b_len, uint32_t trees, const uint
                       size_t list_len, uint32_t *tables, size_t tables_len, uint32_t *counts, size_t counts_len, uint8_t *out,
                       size_t out_len, uint32_t *out_parts, size_t out_parts_len, uint32_t *out_symbols, size_t out_symbols_len,
                       size_t told[3]);
+
+/* The list of the buffer b in the writer's bytes over the same tables: every span, symbol, literal and subtree in the form that the
+ * writer takes, every index that of its entry's first place. Put in order again, these bytes stay. Two buffers over the same tables
+ * give the same bytes exactly if they hold the same list.
+ *
+ * Read: the buffer, its tree count, its tables, three words a part (the root's two last) and one a symbol. `tables` is asked for its
+ * length alone: the work words are those of tt_set_token, but no tables are made. No run may lie over one that is written. Nothing is
+ * kept between calls: threads may call it at once, on runs of their own.
+ *
+ * 0: out begins with the new buffer, behind which it is unchanged; told has how many bytes that is. It can be more than b has, and is
+ * at most TT_MOST_BYTES. Trees and tables are as before. What list and counts hold is open up to the lengths above, behind which they
+ * are unchanged.
+ *
+ * Else the number of the refusal, and told has the tree that it names; out is unchanged:
+ * - the check's, at its tree: 1, 2, 3, 4, 7, 8 or 9;
+ * - 6 at 0: first for list, tables or counts shorter than above, then for out shorter than the new buffer. list and counts are
+ *   unchanged but for a short out. */
+uint32_t tt_tidy(const uint8_t *b, size_t b_len, uint32_t trees, const uint32_t *parts, size_t parts_len, const uint32_t *symbols,
+                 size_t symbols_len, uint32_t *list, size_t list_len, const uint32_t *tables, size_t tables_len, uint32_t *counts,
+                 size_t counts_len, uint8_t *out, size_t out_len, size_t told[1]);
 
 #ifdef __cplusplus
 }

@@ -1,7 +1,8 @@
-//! One leaf of a stored bundle of packed token trees exchanged, by the proved function of the crate `store`.
+//! Stored bundles of packed token trees: one leaf exchanged, or all of it put in order, by the proved functions of the crate `store`.
 //!
 //! A bundle is a part table, a symbol table and a buffer of trees (docs/FORMAT.md of the repository). [`Stored::set_token`] gives the buffer of
-//! the same list with one leaf exchanged, over tables made afresh: every other tree reads as before, and the new buffer passes the check; that
+//! the same list with one leaf exchanged, over tables made afresh: every other tree reads as before. [`Stored::tidy`] gives the buffer of the
+//! same list over the same tables in the bytes that the writer makes, whatever forms the old one has. The new buffer passes the check; all that
 //! is proved. The old one is not touched.
 //!
 //! ```
@@ -120,20 +121,64 @@ impl Stored {
     /// For the time of the call it takes 189 bytes a tree: work words, and room for the most that there can be to write.
     pub fn set_token(&self, number: u32, leaf: Leaf) -> Result<Stored, Refusal> {
         let trees = self.trees as usize;
-        let mut work = vec![0; 32 * trees + 32];
-        let (list, others) = work.split_at_mut(16 * trees + 16);
-        let (tables, counts) = others.split_at_mut(10 * trees + 10);
+        let mut work = work_words(trees);
         let (mut bytes, mut parts, mut symbols) = (vec![0; 33 * trees], vec![[0; 3]; 2 * trees + 2], vec![0; trees]);
-        let told = raw::set_token(self, number, &leaf.words(), [list, tables, counts], &mut bytes, parts.as_flattened_mut(), &mut symbols)?;
+        let told = raw::set_token(self, number, &leaf.words(), split(&mut work), &mut bytes, parts.as_flattened_mut(), &mut symbols)?;
         Ok(Stored { bytes: bytes[..told[0]].into(), parts: parts[..told[1]].into(), symbols: symbols[..told[2]].into(), trees: self.trees })
     }
 
-    /// The tree that the check's refusal of this buffer names: it comes before that of a tree number past any count, and before any
-    /// lent run is looked at.
-    fn refused_tree(&self) -> u32 {
-        let refused = raw::set_token(self, u32::MAX, &[0; 13], [&mut [], &mut [], &mut []], &mut [], &mut [], &mut []);
-        refused.expect_err("no such tree").tree
+    /// This list over these tables in the writer's bytes: spans, symbols, literals and subtrees in the forms that the writer takes, each index
+    /// that of its entry's first place. The tables stay, with unused and repeated entries.
+    ///
+    /// Tidying again changes nothing, and two with the same tables become equal exactly if they hold the same list. Fewer bytes are not
+    /// promised: where the control bits 5 to 7 of a subtree in form 000 are not its stored length / 256, the writer's bytes can be more.
+    ///
+    /// For the time of the call it takes 161 bytes a tree: work words, and room for the most that there can be to write.
+    ///
+    /// ```
+    /// use store::Stored;
+    ///
+    /// // a root around `+`, whose span has twelve bytes where four would do, and three parts, the root's two last
+    /// let mut bundle = Vec::new();
+    /// for file in [7u32, 1, 2] {
+    ///     bundle.extend(b"SP");
+    ///     bundle.extend([file, 0, 0].map(u32::to_le_bytes).concat());
+    /// }
+    /// bundle.extend(b"BT\x02\0\0\0\x2E\0\0\0");
+    /// bundle.extend(b"\x04\x40\0\0\x01\0\0\0\0\0\0\0\x1D\x08\x40\0\0\x01\0\0\0\0\0\0\0\x01\0\0\0\x0D\0\0\0");
+    /// bundle.extend(b"\x41\x40\x05\0\x01\0\0\0\0\0\0\0\x56");
+    ///
+    /// let tidy = Stored::from_bundle(&bundle)?.tidy();
+    /// assert_eq!(tidy.bytes()[33..], *b"\x41\0\x05\0\x56");
+    /// assert_eq!(tidy.tidy(), tidy);
+    /// # Ok::<(), store::Refusal>(())
+    /// ```
+    #[must_use = "the old one is not touched"]
+    pub fn tidy(&self) -> Stored {
+        let trees = self.trees as usize;
+        let (mut work, mut bytes) = (work_words(trees), vec![0; 33 * trees]);
+        // proved: nothing else is refused
+        let len = raw::tidy(self, split(&mut work), &mut bytes).expect("the check passes it, work words and room are there");
+        Stored { bytes: bytes[..len].into(), parts: self.parts.clone(), symbols: self.symbols.clone(), trees: self.trees }
     }
+
+    /// The tree that the check's refusal of this buffer names: it comes before any lent run is looked at.
+    fn refused_tree(&self) -> u32 {
+        raw::tidy(self, [&mut [], &mut [], &mut []], &mut []).expect_err("no room").tree
+    }
+}
+
+/// As many as so many trees need, in one run.
+fn work_words(trees: usize) -> Vec<u32> {
+    vec![0; 32 * trees + 32]
+}
+
+/// For the list, for tables, for counts and sizes.
+fn split(work: &mut [u32]) -> [&mut [u32]; 3] {
+    let share = work.len() / 32;
+    let (list, others) = work.split_at_mut(16 * share);
+    let (tables, counts) = others.split_at_mut(10 * share);
+    [list, tables, counts]
 }
 
 #[cfg(test)]

@@ -1,4 +1,4 @@
-//! The function itself.
+//! The functions themselves.
 use crate::{Refusal, Stored};
 
 mod foreign {
@@ -17,6 +17,27 @@ mod foreign {
             out_symbols: *mut u32, out_symbols_len: usize,
             told: *mut [usize; 3],
         ) -> u32;
+        pub fn tt_tidy(
+            b: *const u8, b_len: usize, trees: u32,
+            parts: *const u32, parts_len: usize,
+            symbols: *const u32, symbols_len: usize,
+            list: *mut u32, list_len: usize,
+            tables: *const u32, tables_len: usize,
+            counts: *mut u32, counts_len: usize,
+            out: *mut u8, out_len: usize,
+            told: *mut [usize; 1],
+        ) -> u32;
+    }
+}
+
+/// What was told, unless the number is a refusal's: then the first of it is the tree.
+fn answer<const N: usize>(number: u32, told: [usize; N]) -> Result<[usize; N], Refusal> {
+    match number {
+        0 => Ok(told),
+        number => {
+            let row = checked::Refusal::of(number).expect("a refusal's number");
+            Err(Refusal { row, tree: told[0].try_into().expect("a tree number") })
+        }
     }
 }
 
@@ -42,11 +63,25 @@ pub fn set_token(
             &mut told,
         )
     };
-    match number {
-        0 => Ok(told),
-        number => {
-            let row = checked::Refusal::of(number).expect("a refusal's number");
-            Err(Refusal { row, tree: told[0].try_into().expect("a tree number") })
-        }
-    }
+    answer(number, told)
+}
+
+/// How many bytes were written. Work words as in `set_token`; of those for tables only the length is asked.
+pub fn tidy(from: &Stored, work: [&mut [u32]; 3], bytes: &mut [u8]) -> Result<usize, Refusal> {
+    let [list, tables, counts] = work;
+    let (parts, mut told) = (from.parts.as_flattened(), [0]);
+    // Safe: as above.
+    let number = unsafe {
+        foreign::tt_tidy(
+            from.bytes.as_ptr(), from.bytes.len(), from.trees,
+            parts.as_ptr(), parts.len(),
+            from.symbols.as_ptr(), from.symbols.len(),
+            list.as_mut_ptr(), list.len(),
+            tables.as_ptr(), tables.len(),
+            counts.as_mut_ptr(), counts.len(),
+            bytes.as_mut_ptr(), bytes.len(),
+            &mut told,
+        )
+    };
+    answer(number, told).map(|[bytes]| bytes)
 }

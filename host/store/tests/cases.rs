@@ -1,14 +1,12 @@
 //! The example, the lister's stored cases, and small bundles made here.
 use std::fs;
-use std::path::{Path, PathBuf};
+use std::path::Path;
 use store::{Ident, IdentIsRaw, Leaf, LitKind, Literal, Punct, Refusal, Spacing, Span, Stored};
 
-fn repository() -> PathBuf {
-    Path::new(env!("CARGO_MANIFEST_DIR")).join("../..")
-}
+mod lister_cases;
 
 fn example(name: &str) -> Vec<u8> {
-    fs::read(repository().join("examples").join(name)).expect("the example")
+    fs::read(Path::new(env!("CARGO_MANIFEST_DIR")).join("../../examples").join(name)).expect("the example")
 }
 
 fn tariff() -> Stored {
@@ -115,18 +113,94 @@ fn tables_are_made_afresh() {
     assert_eq!(stored.set_token(DEPOSIT, ident(104)), Ok(tariff()));
 }
 
-/// A refused bundle names the tree that the lister names.
+// ---- put in order
+
+/// The same trees and tables in bytes that pass the check, and that stay.
+fn tidied(stored: &Stored) -> Stored {
+    let tidy = stored.tidy();
+    assert_eq!((tidy.trees(), tidy.parts(), tidy.symbols()), (stored.trees(), stored.parts(), stored.symbols()));
+    assert_eq!(Stored::from_bundle(&tidy.to_bundle()).as_ref(), Ok(&tidy));
+    assert_eq!(tidy.tidy(), tidy);
+    tidy
+}
+
+#[test]
+fn the_loose_tariff_becomes_the_tariff() {
+    let loose = Stored::from_bundle(&example("loose.bundle")).unwrap();
+    assert_eq!((loose.bytes().len(), tidied(&loose)), (188, tariff()));
+    for name in ["tariff.bundle", "renamed.bundle"] {
+        let stored = Stored::from_bundle(&example(name)).unwrap();
+        assert_eq!(tidied(&stored), stored);
+    }
+}
+
+/// A root over so many parts, Invisible, both spans 0, the close span's extra bits given, and trees of these bytes in it.
+fn rooted(parts: &[[u32; 3]], symbols: &[u32], close_extra: u8, trees: &[&[u8]]) -> Stored {
+    let (mut bundle, below) = (Vec::new(), trees.concat());
+    for part in parts {
+        bundle.extend([b"SP", part.map(u32::to_le_bytes).as_flattened()].concat());
+    }
+    for symbol in symbols {
+        bundle.extend([b"SY", symbol.to_le_bytes().as_slice()].concat());
+    }
+    let last = parts.len() as u8 - 1;
+    let (span, count) = ([0x40, 0, 0, 1, 0, 0, 0, 0, 0, 0, 0], trees.len() as u32);
+    let root = [&[4 * (last - 1)], &span[..], &[0x1D, 4 * last + close_extra], &span].concat();
+    bundle.extend(b"BT");
+    bundle.extend([count + 1, 33 + below.len() as u32].map(u32::to_le_bytes).as_flattened());
+    bundle.extend(root);
+    bundle.extend([count, below.len() as u32].map(u32::to_le_bytes).as_flattened());
+    bundle.extend(below);
+    Stored::from_bundle(&bundle).expect("a bundle that passes")
+}
+
+const PARTS: [[u32; 3]; 3] = [[7, 0, 0], [1, 0, 0], [2, 0, 0]];
+
+/// Parentheses at 5 whose close start is 5 + (3 OR 256) = 264: the writer stores the distance 259 whole, for which a span has eight bytes.
+/// 0x2C0C0 = start 5, E, length 3; 0x1000 = 1 * 256 of length; 20 = distance / 256.
+#[test]
+fn distance_bits_without_length_take_four_bytes_more() {
+    let stored = rooted(&PARTS, &[], 0, &[b"\xC0\x80\x02\0\x20\0\0"]);
+    let tidy = rooted(&PARTS, &[], 0, &[b"\xC0\xC0\x02\0\0\x10\0\0\x20\0\0"]);
+    assert_eq!((stored.bytes().len(), tidy.bytes().len()), (33 + 7, 33 + 11));
+    assert_eq!(tidied(&stored), tidy);
+}
+
+/// Parentheses at 5 with the distance 2048, which the writer's 000 does not hold: 101, its close span 0x04028040 = start 2053, length 1.
+#[test]
+fn a_distance_of_2048_takes_six_bytes_more() {
+    let stored = rooted(&PARTS, &[], 0, &[b"\0\xC0\x02\0\0\x80\0\0\0\0\0"]);
+    let tidy = rooted(&PARTS, &[], 0, &[b"\x40\x80\x02\0\x05\x40\x80\x02\x04\0\0\0\0\0\0\0\0"]);
+    assert_eq!((stored.bytes().len(), tidy.bytes().len()), (33 + 11, 33 + 17));
+    assert_eq!(tidied(&stored), tidy);
+}
+
+/// No span is loose, yet every tree has other bytes, the root too. The tables, an entry twice in each, stay.
+#[test]
+fn more_than_spans_is_put_in_order() {
+    let parts = [PARTS[0], PARTS[0], PARTS[1], PARTS[2]];
+    let given: [&[u8]; 4] = [
+        // an ident, part 1, symbol 1 in two bytes
+        b"\x46\0\x05\0\x06\0",
+        // a Str in the long form, its tag set
+        b"\xC0\0\x06\0\x27\0\x01",
+        // `+` Joint as any character
+        b"\x40\0\x08\0\x0E\x2B\0\0\0",
+        // braces in 010, distance 2, close part 1
+        b"\x40\0\x09\0\x2A\x02\0\0\0",
+    ];
+    let due: [&[u8]; 4] = [b"\x42\0\x05\0\0", b"\xC0\0\x06\0\x03\0", b"\x41\0\x08\0\x57", b"\x80\0\x09\0\x08\0\0"];
+    let tidy = rooted(&parts, &[9, 9], 0, &due);
+    assert_eq!(tidied(&rooted(&parts, &[9, 9], 3, &given)), tidy);
+}
+
+// ---- bundles of all sorts
+
+/// A refused bundle names the tree that the lister names; one that passes is written and put in order.
 #[test]
 fn the_listers_cases() {
     let mut met = 0;
-    for entry in fs::read_dir(repository().join("crates/lister/cases")).expect("the cases") {
-        let file = entry.unwrap().path();
-        if file.extension().is_none_or(|x| x != "hex") {
-            continue;
-        }
-        let hex = fs::read_to_string(&file).unwrap();
-        let bundle: Vec<u8> = hex.split_whitespace().map(|two| u8::from_str_radix(two, 16).expect("two digits")).collect();
-        let text = fs::read_to_string(file.with_extension("txt")).unwrap();
+    for (file, bundle, text) in lister_cases::all() {
         let stored = Stored::from_bundle(&bundle);
         if let Some(due) = text.strip_prefix("refused ") {
             let (number, tree) = due.trim_end().split_once(" at ").unwrap();
@@ -136,7 +210,8 @@ fn the_listers_cases() {
         } else {
             let stored = stored.unwrap();
             assert_eq!(text.lines().count(), stored.trees() as usize + 1, "{}", file.display());
-            assert_eq!(Stored::from_bundle(&stored.to_bundle()), Ok(stored), "{}", file.display());
+            assert_eq!(Stored::from_bundle(&stored.to_bundle()).as_ref(), Ok(&stored), "{}", file.display());
+            tidied(&stored);
         }
     }
     assert!(met > 20, "{met}");
@@ -144,11 +219,17 @@ fn the_listers_cases() {
 
 /// On several threads at once.
 #[test]
-fn every_thread_may_exchange() {
+fn every_thread_may_exchange_and_tidy() {
     let (stored, due) = (tariff(), tariff().set_token(DEPOSIT, ident(204)));
+    let loose = Stored::from_bundle(&example("loose.bundle")).unwrap();
     std::thread::scope(|s| {
         for _ in 0..4 {
-            s.spawn(|| (0..200).for_each(|_| assert_eq!(stored.set_token(DEPOSIT, ident(204)), due)));
+            s.spawn(|| {
+                for _ in 0..200 {
+                    assert_eq!(stored.set_token(DEPOSIT, ident(204)), due);
+                    assert_eq!(loose.tidy(), stored);
+                }
+            });
         }
     });
 }

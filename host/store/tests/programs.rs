@@ -1,7 +1,9 @@
-//! The program over files, and the header from C.
+//! The programs over files, and the header from C.
 use std::fs;
 use std::path::{Path, PathBuf};
 use std::process::Command;
+
+mod lister_cases;
 
 const HERE: &str = env!("CARGO_MANIFEST_DIR");
 
@@ -16,9 +18,19 @@ fn example(name: &str) -> PathBuf {
 }
 
 /// The status, what was written, what was said.
-fn rename(words: &[&str]) -> (Option<i32>, Vec<u8>, String) {
-    let output = Command::new(env!("CARGO_BIN_EXE_rename")).args(words).output().unwrap();
+fn run(program: &str, words: &[&str]) -> (Option<i32>, Vec<u8>, String) {
+    let output = Command::new(program).args(words).output().unwrap();
     (output.status.code(), output.stdout, String::from_utf8(output.stderr).unwrap())
+}
+
+fn rename(words: &[&str]) -> (Option<i32>, Vec<u8>, String) {
+    run(env!("CARGO_BIN_EXE_rename"), words)
+}
+
+/// The status, what was printed, what was said.
+fn tidy(from: &Path, to: &Path) -> (Option<i32>, String, String) {
+    let (status, printed, said) = run(env!("CARGO_BIN_EXE_tidy"), &[from.to_str().unwrap(), to.to_str().unwrap()]);
+    (status, String::from_utf8(printed).unwrap(), said)
 }
 
 #[test]
@@ -57,12 +69,67 @@ fn what_is_said_of_files_and_words() {
 }
 
 #[test]
-fn the_header_from_c() {
-    let program = folder("c").join("exchange");
+fn the_loose_tariff_put_in_order() {
+    let file = folder("tidy").join("tidied.bundle");
+    let done = |line: &str| (Some(0), format!("{line}\n"), String::new());
+    assert_eq!(tidy(&example("loose.bundle"), &file), done("bytes 188 to 100, loose spans 11 to 0"));
+    let tariff = fs::read(example("tariff.bundle")).unwrap();
+    assert_eq!(fs::read(&file).unwrap(), tariff);
+    assert_eq!(tidy(&file, &file), done("bytes 100 to 100, loose spans 0 to 0"));
+    assert_eq!(fs::read(&file).unwrap(), tariff);
+    // in its own place, with more bytes there than are written
+    fs::copy(example("loose.bundle"), &file).unwrap();
+    assert_eq!(tidy(&file, &file), done("bytes 188 to 100, loose spans 11 to 0"));
+    assert_eq!(fs::read(&file).unwrap(), tariff);
+}
+
+/// Bytes and loose spans before are those of the lister's first line, and afterwards no span is loose. What is refused is not written.
+#[test]
+fn the_listers_cases_put_in_order() {
+    let folder = folder("cases");
+    let (from, to) = (folder.join("from.bundle"), folder.join("to.bundle"));
+    let mut met = [0, 0];
+    for (_, bundle, text) in lister_cases::all() {
+        let line = text.lines().next().unwrap();
+        fs::write(&from, &bundle).unwrap();
+        fs::write(&to, "as it was").unwrap();
+        let (status, printed, said) = tidy(&from, &to);
+        if line.starts_with("refused") {
+            assert_eq!((status, printed.as_str(), fs::read(&to).unwrap().as_slice()), (Some(1), "", &b"as it was"[..]), "{line}");
+            assert!(said.contains(&format!("from.bundle: {line}: ")), "{said}");
+            met[0] += 1;
+        } else {
+            let words: Vec<&str> = line.split(' ').collect();
+            let due = [format!("bytes {} to ", words[3]), format!(", loose spans {} to 0\n", words[9])];
+            assert!(status == Some(0) && printed.starts_with(&due[0]) && printed.ends_with(&due[1]), "{printed} for {line}");
+            met[1] += 1;
+        }
+    }
+    assert!(met[0] > 20 && met[1] > 20, "{met:?}");
+}
+
+#[test]
+fn files_that_cannot_be_tidied() {
+    let folder = folder("no tidy");
+    let (none, nowhere) = (folder.join("none.bundle"), folder.join("no folder/to.bundle"));
+    for (from, to, why) in [(&none, &nowhere, "none.bundle cannot be read"), (&example("loose.bundle"), &nowhere, "to.bundle cannot be written")] {
+        let (status, printed, said) = tidy(from, to);
+        assert_eq!((status, printed.as_str()), (Some(2), ""));
+        assert!(said.contains(why), "{said}");
+    }
+    for words in [&["a"][..], &["a", "b", "c"], &[]] {
+        let (status, printed, said) = run(env!("CARGO_BIN_EXE_tidy"), words);
+        assert_eq!((status, printed.len(), said.as_str()), (Some(2), 0, "tidy: usage: tidy IN OUT\n"));
+    }
+}
+
+/// What a program of this folder prints, built with the header.
+fn from_c(name: &str) -> String {
+    let program = folder("c").join(name);
     let built = Command::new("cc")
         .args(["-std=c99", "-Wall", "-Wextra", "-Werror", "-pedantic", "-I"])
         .arg(Path::new(HERE).join("include"))
-        .arg(Path::new(HERE).join("tests/exchange.c"))
+        .arg(Path::new(HERE).join("tests").join(name).with_extension("c"))
         .arg(Path::new(env!("TT_STORE_LIB_FOUND")).join("libstore.a"))
         .arg("-o")
         .arg(&program)
@@ -70,7 +137,18 @@ fn the_header_from_c() {
         .expect("a C compiler");
     assert!(built.status.success(), "{}", String::from_utf8_lossy(&built.stderr));
     let output = Command::new(&program).output().unwrap();
-    let lines = String::from_utf8(output.stdout).unwrap();
-    assert_eq!(lines, "0: 38 3 1\n10: 0 0 0\n10: 2 0 0\n2: 1 0 0\n6: 0 0 0\n6: 0 0 0\n7: 1 0 0\n");
     assert_eq!(output.status.code(), Some(0));
+    String::from_utf8(output.stdout).unwrap()
+}
+
+#[test]
+fn a_leaf_exchanged_from_c() {
+    assert_eq!(from_c("exchange"), "0: 38 3 1\n10: 0 0 0\n10: 2 0 0\n2: 1 0 0\n6: 0 0 0\n6: 0 0 0\n7: 1 0 0\n");
+}
+
+#[test]
+fn a_buffer_put_in_order_from_c() {
+    let rows = "1 at 0\n2 at 0\n3 at 0\n4 at 256\n7 at 1\n8 at 1\n9 at 2\n9 at 0\n";
+    let short = "6 at 0\n6 at 0\n6 at 0\n6 at 0\n";
+    assert_eq!(from_c("tidy"), format!("38 bytes\n38 bytes\n{rows}{short}"));
 }
