@@ -82,13 +82,24 @@ impl Case {
 
 /// Every size, by how many lists of it, with few and many table entries, and with starts that wrap or grow.
 pub fn cases(sizes: &[(usize, u64)]) -> impl Iterator<Item = Case> {
+    cases_by(sizes, "", Buffer::of)
+}
+
+/// The same lists over the same tables, every span in twelve bytes.
+pub fn loose_cases(sizes: &[(usize, u64)]) -> impl Iterator<Item = Case> {
+    cases_by(sizes, LOOSE, Buffer::loose)
+}
+
+const LOOSE: &str = ", spans of twelve bytes";
+
+fn cases_by(sizes: &[(usize, u64)], how: &'static str, buffer: fn(&[u32]) -> Buffer) -> impl Iterator<Item = Case> {
     let tables = [("few", 12, 400), ("many", 20_000, 60_000)];
     let starts = [("wrap", 60_000), ("grow", u32::MAX)];
     sizes.iter().flat_map(move |&(trees, lists)| {
         tables.into_iter().flat_map(move |(entries, parts, symbols)| {
             starts.into_iter().map(move |(start, wrap)| Case {
-                name: format!("{trees} trees, {entries} entries, starts {start}"),
-                buffers: (0..lists).map(|seed| Buffer::of(&list_of(&Shape { trees, parts, symbols, wrap }, 5 + seed))).collect(),
+                name: format!("{trees} trees, {entries} entries, starts {start}{how}"),
+                buffers: (0..lists).map(|seed| buffer(&list_of(&Shape { trees, parts, symbols, wrap }, 5 + seed))).collect(),
             })
         })
     })
@@ -97,7 +108,7 @@ pub fn cases(sizes: &[(usize, u64)]) -> impl Iterator<Item = Case> {
 /// One list with few table entries, every span in twelve bytes.
 pub fn loose(trees: usize) -> Case {
     let list = list_of(&Shape { trees, parts: 12, symbols: 400, wrap: 60_000 }, 5);
-    Case { name: format!("{trees} trees, few entries, starts wrap, spans of twelve bytes"), buffers: vec![Buffer::loose(&list)] }
+    Case { name: format!("{trees} trees, few entries, starts wrap{LOOSE}"), buffers: vec![Buffer::loose(&list)] }
 }
 
 /// Each tree handed over and not looked at.

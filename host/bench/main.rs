@@ -19,6 +19,7 @@ mod builders;
 mod list;
 mod lists;
 mod replace;
+mod tidy;
 mod timing;
 mod tree;
 mod walks;
@@ -31,5 +32,6 @@ fn main() {
     lists::run();
     walks::run();
     replace::run();
+    tidy::run();
     builders::run();
 }

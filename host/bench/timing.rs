@@ -16,7 +16,7 @@ fn now() -> f64 {
 }
 
 /// Whether a row is asked for: all are, unless the program is given a word that their names must hold.
-fn asked(what: &str) -> bool {
+pub fn asked(what: &str) -> bool {
     std::env::args().nth(1).is_none_or(|word| what.contains(&word))
 }
 
@@ -64,9 +64,23 @@ fn timed<T>(
     true
 }
 
-fn printed(what: &str, units: usize, ours: f64, source: f64) {
+pub fn printed(what: &str, units: usize, ours: f64, source: f64) {
     let n = units as f64;
     println!("| {what} | {:.2} | {:.2} | {:.2} |", ours / n, source / n, ours / source);
+}
+
+/// The best times of several things done in turn, in nanoseconds.
+pub fn best<const N: usize>(mut things: [&mut dyn FnMut(); N]) -> [f64; N] {
+    let (mut best, begun, mut runs) = ([f64::MAX; N], Instant::now(), 0);
+    while due(runs, 9, begun, 1000) {
+        for (best, thing) in best.iter_mut().zip(&mut things) {
+            let t = now();
+            thing();
+            *best = best.min(now() - t);
+        }
+        runs += 1;
+    }
+    best
 }
 
 /// Two rows: ours beside the source's, then beside the source's and a part of ours that the source has not, by its name. The source works in

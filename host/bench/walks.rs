@@ -52,6 +52,11 @@ macro_rules! whole {
     }};
 }
 
+/// A walk to the end: the list words added up.
+pub fn walk_all(b: &Buffer) -> u64 {
+    whole!(tt_walk_all, b)
+}
+
 // ---- ours, each step through the C interface
 
 /// From a place to the end; the trees handed back.
@@ -151,7 +156,7 @@ fn all(case: &Case, mut f: impl FnMut(&Buffer) -> u64) -> u64 {
 fn whole(case: &Case) {
     let (name, trees) = (&case.name, case.trees());
     let steps: usize = case.buffers.iter().map(|b| source_skip(&b.top)).sum();
-    let walk = |b: &Buffer| whole!(tt_walk_all, b);
+    let walk = walk_all;
     let skip = |b: &Buffer| whole!(tt_skip_all, b, ROOT, 1, b.trees - 1);
     let lent = |b: &Buffer| whole!(tt_cursor_all, b);
     let by_value = |b: &Buffer| whole!(tt_cursor_by_value_all, b);
@@ -176,7 +181,7 @@ fn bare(case: &Case) {
     let (name, trees) = (&case.name, case.trees());
     let steps: usize = case.buffers.iter().map(|b| source_skip(&b.top)).sum();
     let rows: [(&str, usize, &dyn Fn(&Buffer) -> u64, &dyn Fn(&TopSubtree)); 4] = [
-        ("walk", trees, &|b| whole!(tt_walk_all, b), &source_walk),
+        ("walk", trees, &walk_all, &source_walk),
         ("skip", steps, &|b| whole!(tt_skip_all, b, ROOT, 1, b.trees - 1), &|top| _ = source_skip(top)),
         ("cursor lent", trees, &|b| whole!(tt_cursor_all, b), &source_cursor),
         ("cursor by value", trees, &|b| whole!(tt_cursor_by_value_all, b), &source_cursor),

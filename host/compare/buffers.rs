@@ -8,6 +8,7 @@ use crate::reports;
 use crate::tally::Tally;
 use tt::TopSubtree;
 
+#[derive(Clone, PartialEq, Eq)]
 pub struct Stored {
     pub bytes: Vec<u8>,
     pub trees: u32,
@@ -82,7 +83,7 @@ pub fn stored(seed: u64) -> (Random, Stored) {
     (m.r, s)
 }
 
-fn damage(r: &mut Random, s: &mut Stored) {
+pub fn damage(r: &mut Random, s: &mut Stored) {
     let place = r.below(s.bytes.len().max(1) as u64) as usize;
     match r.below(10) {
         0..3 if !s.bytes.is_empty() => s.bytes[place] ^= 1 << r.below(8),

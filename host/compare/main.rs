@@ -13,6 +13,7 @@ mod plain_buffer;
 mod plain_builder;
 mod plain_list;
 mod plain_replace;
+mod plain_tidy;
 mod proved;
 mod random;
 mod replace;
@@ -22,8 +23,11 @@ mod source_builder;
 mod stack;
 mod steps;
 mod tally;
+mod tidy;
+mod tidy_small;
 mod tree;
 mod walks;
+mod ways;
 mod widened;
 mod words;
 
@@ -33,7 +37,7 @@ fn main() {
     let many: u64 = std::env::args().nth(1).map_or(1, |x| x.parse().expect("how many times the usual number"));
     // all parts are run, unless a word is given that their names must hold
     let word = std::env::args().nth(2).unwrap_or_default();
-    let parts: [(&str, &dyn Fn(&mut Tally)); 27] = [
+    let parts: [(&str, &dyn Fn(&mut Tally)); 34] = [
         ("spans and symbols written", &|t| pack::write(t)),
         ("spans and symbols read", &|t| pack::read(t)),
         ("spans read, every form", &|t| forms::read_spans(t, 100_000 * many)),
@@ -57,6 +61,13 @@ fn main() {
         ("leaves exchanged, bad ones", &|t| replace::bad_leaves(t)),
         ("leaves exchanged, every length of a lent run", &|t| replace::every_length(t)),
         ("leaves exchanged at the limits of sizes", &|t| replace::limits(t)),
+        ("tidied, every buffer of a small list", &|t| tidy_small::every_way(t)),
+        ("tidied, every way of one tree", &|t| tidy_small::each_tree(t)),
+        ("tidied, random lists", &|t| tidy::random(t, 40_000 * many)),
+        ("tidied, two buffers", &|t| tidy::pairs(t, 20_000 * many)),
+        ("tidied, every length of a lent run", &|t| tidy::every_length(t)),
+        ("tidied at the limits of sizes", &|t| tidy::limits(t)),
+        ("tidied and longer", &|t| tidy::longer(t)),
         ("builders, every script of few steps", &|t| builders::every_script(t, if many < 10 { 6 } else { 7 })),
         ("builders, random scripts", &|t| builders_random::scripts(t, 100_000 * many)),
         ("builders, invented", &|t| builders_random::invented_builders(t, 100_000 * many)),

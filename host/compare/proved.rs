@@ -105,6 +105,16 @@ mod raw {
             out_symbols: *mut u32, out_symbol_words: usize,
             told: *mut usize,
         ) -> u32;
+        pub fn tt_tidy(
+            b: *const u8, len: usize, trees: u32,
+            parts: *const u32, part_words: usize,
+            symbols: *const u32, symbol_words: usize,
+            list: *mut u32, list_words: usize,
+            tables: *const u32, table_words: usize,
+            counts: *mut u32, count_words: usize,
+            out: *mut u8, out_len: usize,
+            told: *mut usize,
+        ) -> u32;
     }
 }
 
@@ -310,6 +320,23 @@ pub fn set_token(b: Lent, number: u32, leaf: &[u32; 13], to: &mut Runs) -> Resul
     }
     assert_eq!(told[1..], [0; 2]);
     Err((refusal.into(), told[0] as u64))
+}
+
+// ---- a buffer put in order
+
+/// The work words are the same three runs. The answer: how many bytes.
+#[inline]
+pub fn tidy(b: Lent, work: &mut [Vec<u32>; 3], out: &mut [u8]) -> Result<usize, (u64, u64)> {
+    let mut told = [usize::MAX];
+    let [list, tables, counts] = work;
+    let refusal = unsafe {
+        raw::tt_tidy(
+            b.bytes.as_ptr(), b.bytes.len(), b.trees, b.parts.as_ptr(), b.parts.len(), b.symbols.as_ptr(), b.symbols.len(),
+            list.as_mut_ptr(), list.len(), tables.as_ptr(), tables.len(), counts.as_mut_ptr(), counts.len(),
+            out.as_mut_ptr(), out.len(), told.as_mut_ptr(),
+        )
+    };
+    if refusal == 0 { Ok(told[0]) } else { Err((refusal.into(), told[0] as u64)) }
 }
 
 // ---- the builder

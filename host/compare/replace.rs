@@ -134,16 +134,16 @@ fn source_alike(top: &TopSubtree, number: u32, leaf: &[u32; 13], want: &Result<R
 
 // ---- every small list
 
-const A: [u32; 3] = [1, 0, 0];
-const B: [u32; 3] = [1, 4, 2];
-const C: [u32; 3] = [7, 0, 9];
+pub const A: [u32; 3] = [1, 0, 0];
+pub const B: [u32; 3] = [1, 4, 2];
+pub const C: [u32; 3] = [7, 0, 9];
 
 const fn leaf(head: [u32; 3], part: [u32; 3], start: u32, len: u32) -> [u32; 13] {
     [head[0], head[1], head[2], part[0], part[1], part[2], start, len, 0, 0, 0, 0, 0]
 }
 
 /// Of every sort, packed in every way; parts and symbols are shared by some.
-const LEAVES: [[u32; 13]; 6] = [
+pub const LEAVES: [[u32; 13]; 6] = [
     leaf([0, 43, 0], A, 10, 1),
     leaf([0, 0x2028, 1], B, 131_072, 1),
     leaf([1, 5, 0], A, 12, 300),
@@ -153,7 +153,7 @@ const LEAVES: [[u32; 13]; 6] = [
 ];
 
 /// The runs of so many trees, each tree as its descendants if it is a subtree.
-fn forests(trees: usize) -> Vec<Vec<Option<usize>>> {
+pub fn forests(trees: usize) -> Vec<Vec<Option<usize>>> {
     if trees == 0 {
         return vec![vec![]];
     }
@@ -169,7 +169,7 @@ fn forests(trees: usize) -> Vec<Vec<Option<usize>>> {
 }
 
 /// The list of a forest below a root, its leaves given by their digits in a number.
-fn small_list(forest: &[Option<usize>], mut choice: usize) -> Vec<u32> {
+pub fn small_list(forest: &[Option<usize>], mut choice: usize) -> Vec<u32> {
     let mut list = vec![3, forest.len() as u32, 3, 1, 0, 0, 0, 9, 2, 0, 0, 40, 0];
     for (n, tree) in forest.iter().enumerate() {
         match tree {
@@ -362,7 +362,7 @@ pub fn every_length(tally: &mut Tally) {
 
 /// So many trees with exactly so many parts and symbols below the root. The first trees bring one after the other, the others are drawn, the
 /// later ones less often; some trees are subtrees, whose closing part is the opening one of another.
-fn sized_list(r: &mut Random, trees: usize, parts: u64, symbols: u64) -> Vec<u32> {
+pub fn sized_list(r: &mut Random, trees: usize, parts: u64, symbols: u64) -> Vec<u32> {
     let mut list = vec![3, trees as u32 - 1, 3, 0, 0, 0, 0, 9, 0, 0, 1, 40, 0];
     let mut draw = |n: u64, of: u64| {
         let most = r.below(of) + 1;
@@ -395,9 +395,9 @@ fn nine_leaves(list: &[u32], number: usize, other: usize) -> Vec<[u32; 13]> {
     all
 }
 
-/// Leaves that bring or share a part and a symbol: the first, the last that brings a symbol, the last one.
-pub fn limits(tally: &mut Tally) {
-    let mut sizes: Vec<(usize, u64, u64)> = Vec::new();
+/// Trees, parts and symbols on both sides of each limit of a form and of the ways to look up.
+pub fn limit_sizes() -> Vec<(usize, u64, u64)> {
+    let mut sizes = Vec::new();
     sizes.extend([14, 15, 16, 17, 126, 127, 128, 129].map(|parts| (400, parts, 20)));
     sizes.extend([62, 63, 64, 65].map(|symbols| (200, 3, symbols)));
     for trees in [1023, 1024, 1025, 1026, 8191, 8192, 8193, 32_767, 32_768, 32_769] {
@@ -407,8 +407,13 @@ pub fn limits(tally: &mut Tally) {
     sizes.extend([8190, 8191, 8192, 8193].map(|symbols| (9000, 20, symbols)));
     sizes.extend([32_767, 32_768, 32_769].map(|parts| (34_000, parts, 20)));
     sizes.extend([65_535, 65_536, 65_537].map(|entries| (66_000, entries, entries)));
+    sizes
+}
+
+/// Leaves that bring or share a part and a symbol: the first, the last that brings a symbol, the last one.
+pub fn limits(tally: &mut Tally) {
     let mut r = Random::new(33);
-    for (trees, parts, symbols) in sizes {
+    for (trees, parts, symbols) in limit_sizes() {
         let list = sized_list(&mut r, trees, parts, symbols);
         let mut tables = plain_list::tables(&list);
         assert_eq!((tables.parts.len() as u64 - 2, tables.symbols.len() as u64), (parts, symbols));

@@ -1,4 +1,5 @@
 //! The functions that docs/COMPARISON.md names, on a thread with a stack of 1 MB, with the largest inputs.
+use crate::plain::{Loose, Tree};
 use crate::plain_list;
 use crate::plain_replace;
 use crate::proved::{self, Builder, Lent, Runs, Stack, work_words};
@@ -32,13 +33,15 @@ fn lists(tally: &mut Tally, what: &str, list: &[u32]) {
         let [a, b, c, d] = &mut runs;
         let made = proved::tables(list, a, b, c, d) == Ok((own.parts.len() as u64, symbols.len() as u64));
         let tables = made && runs == [parts.clone(), own.part_counts.clone(), symbols.clone(), own.symbol_counts.clone()];
-        let want = plain_list::write(list, &parts, &symbols).unwrap_or_else(|r| panic!("{r:?}"));
+        let trees = plain_list::trees(list, &parts, &symbols).unwrap_or_else(|r| panic!("{r:?}"));
+        let want = plain_list::bytes(&trees, &mut Loose::default);
         let (mut work, mut out) = (vec![0; want.work.len()], vec![0; want.bytes.len()]);
         let wrote = proved::encode_list(list, &parts, &symbols, &mut work, &mut out) == Ok(out.len() as u64);
         let written = tables && wrote && work == want.work && out == want.bytes;
         let read = written && read_alike(&out, (list.len() / 13) as u32, &parts, &symbols) && one_tree(&out, list, &parts, &symbols);
         let replaced = read && replaced_alike(list, &out, &parts, &symbols);
-        replaced && built_alike(list, &parts, &symbols, &mut work, &out)
+        let tidied = replaced && tidied_alike(&trees, &out, &parts, &symbols);
+        tidied && built_alike(list, &parts, &symbols, &mut work, &out)
     });
     tally.case(same, || what.to_string());
 }
@@ -70,6 +73,38 @@ fn replaced_alike(list: &[u32], bytes: &[u8], parts: &[u32], symbols: &[u32]) ->
         Ok(w) => reply == Ok([sizes[0], sizes[1] / 3, sizes[2]]) && (runs.bytes, runs.parts, runs.symbols) == (w.bytes, w.parts, w.symbols),
         Err(refusal) => reply == Err(refusal),
     }
+}
+
+/// Every tree in its longest form, put in order.
+fn tidied_alike(trees: &[Tree], bytes: &[u8], parts: &[u32], symbols: &[u32]) -> bool {
+    let longest = Loose { span: 12, close: 12, close_extra: 3, symbol: 4, tag: 1, forms: 3 };
+    put_in_order(&plain_list::bytes(trees, &mut || longest).bytes, trees.len(), parts, symbols, bytes)
+}
+
+fn put_in_order(loose: &[u8], trees: usize, parts: &[u32], symbols: &[u32], want: &[u8]) -> bool {
+    let (mut work, mut out) = (work_words(trees).map(|n| vec![0; n]), vec![0; want.len()]);
+    let reply = proved::tidy(Lent { bytes: loose, trees: trees as u32, parts, symbols }, &mut work, &mut out);
+    reply == Ok(want.len()) && out == want
+}
+
+/// A list over its tables with every entry twice, the second places meant.
+fn second_places(tally: &mut Tally, what: &str, list: &[u32]) {
+    let same = on_small_stack(|| {
+        let own = plain_list::tables(list);
+        let (below, root) = own.parts.split_at(own.parts.len() - 2);
+        let (parts, symbols) = ([below, below, root].concat().concat(), own.symbols.repeat(2));
+        let mut trees = plain_list::trees(list, &parts, &symbols).unwrap();
+        for tree in &mut trees[1..] {
+            if let Tree::Ident { span, symbol, .. } = tree {
+                span.index += below.len() as u64;
+                *symbol += own.symbols.len() as u64;
+            }
+        }
+        let want = plain_list::write(list, &parts, &symbols).unwrap().bytes;
+        let loose = plain_list::bytes(&trees, &mut Loose::default).bytes;
+        loose != want && put_in_order(&loose, trees.len(), &parts, &symbols, &want)
+    });
+    tally.case(same, || what.to_string());
 }
 
 /// The list made step by step, a point taken, passed and restored, then built in both ways.
@@ -130,5 +165,6 @@ pub fn run(tally: &mut Tally) {
     lists(tally, "1,048,576 trees, all symbols and parts apart", &list(most, false, |n| n, |n| n.wrapping_mul(2654435761)));
     lists(tally, "1,048,576 trees, 2,097,150 parts", &list(most, true, |n| n, |_| 0));
     lists(tally, "1,048,576 trees, 2,097,149 parts, a leaf", &leaf_last(list(most, true, |n| n, |_| 0)));
+    second_places(tally, "1,048,576 trees, 2,097,152 parts, 1,048,576 symbols, each twice", &list(most, false, |n| n, |n| n % (1 << 19)));
     lists(tally, "40,000 trees, symbols that differ in high bits alone", &list(40_000, false, |n| n << 16, |n| n << 16));
 }

@@ -9,7 +9,7 @@ use crate::reports;
 use crate::tally::Tally;
 
 /// The trees and the reports that the proved walk hands back, tree after tree.
-fn walked(s: &Stored) -> Option<(Vec<u32>, Vec<[u32; 3]>)> {
+pub fn walked(s: &Stored) -> Option<(Vec<u32>, Vec<[u32; 3]>)> {
     let (mut list, mut all) = (vec![], vec![]);
     let (mut at, mut next, mut words) = ((0, 0, s.trees), [0; 3], [0; 16]);
     while proved::walk(s.lent(), at, false, &mut next, &mut words).ok()? == 1 {
