@@ -16,6 +16,8 @@ mod random;
 mod reports;
 #[path = "../compare/tally.rs"]
 mod tally;
+#[path = "../compare/ways.rs"]
+mod ways;
 #[path = "../compare/words.rs"]
 mod words;
 

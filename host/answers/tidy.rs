@@ -1,13 +1,14 @@
 //! Stored buffers put in order: the source's bytes for the list that it reads, over the same tables. The source reads unchecked: whether a
 //! buffer may be read, and the refusal of one that may not, is the plain version's.
-use crate::maker::{Maker, loose};
-use crate::plain::{Span, Tree};
+use crate::maker::Maker;
 use crate::plain_buffer::Buffer;
 use crate::plain_list::{self, Refusal};
 use crate::random::Random;
 use crate::stored::{Stored, few_tables};
 use crate::tally::Tally;
 use crate::text::Text;
+use crate::ways::{Ways, buffer};
+use crate::words;
 
 const SMALL: usize = 12;
 
@@ -25,51 +26,18 @@ fn answered(text: &mut Text, tally: &mut Tally, s: &Stored) {
         return;
     }
     s.line(text, "buffer");
-    let (top, mut list) = (s.source(), Vec::new());
-    let mut walk = top.walk_from(0);
-    while let Some(tree) = walk.advance() {
-        list.push(tree);
-    }
     text.line("tidy");
-    text.bytes(&s.written(list));
+    text.bytes(&s.written(words::trees(&s.source())));
 }
 
 // ---- other bytes for the same list
 
-/// Any place of an entry.
-fn any_place<T: PartialEq>(r: &mut Random, entries: &[T], index: &mut u64) {
-    let entry = &entries[*index as usize];
-    let places: Vec<u64> = (0..).zip(entries).filter(|(_, e)| *e == entry).map(|(i, _)| i).collect();
-    *index = r.pick(&places);
-}
-
-/// A tree below the root with any places of its entries.
-fn elsewhere(r: &mut Random, tree: &mut Tree, parts: &[&[u32]], symbols: &[u32]) {
-    let part = |r: &mut Random, span: &mut Span| any_place(r, parts, &mut span.index);
-    match tree {
-        Tree::Punct { span, .. } => part(r, span),
-        Tree::Ident { span, symbol, .. } | Tree::Literal { span, symbol, .. } => {
-            part(r, span);
-            any_place(r, symbols, symbol);
-        }
-        Tree::Subtree { open, close, .. } => {
-            part(r, open);
-            part(r, close);
-        }
-    }
-}
-
-/// A list in any form over tables in any order with unused and repeated entries, each index that of any place of its entry.
+/// A list in any way that the check admits, over tables in any order with unused and repeated entries.
 fn untidy(m: &mut Maker, list: &[u32]) -> Stored {
     let (parts, symbols) = few_tables(m, list);
-    let mut trees = plain_list::trees(list, &parts, &symbols).expect("a list that rows 1 to 5 pass");
-    let part_list: Vec<&[u32]> = parts.chunks(3).collect();
-    for tree in &mut trees[1..] {
-        elsewhere(&mut m.r, tree, &part_list[..part_list.len() - 2], &symbols);
-    }
-    let mut bytes = plain_list::bytes(&trees, &mut || loose(&mut m.r)).bytes;
-    // the extra bits of the root's close span
-    bytes[13] |= m.r.below(4) as u8;
+    let trees = plain_list::trees(list, &parts, &symbols).expect("a list that rows 1 to 5 pass");
+    let (ways, close_extra) = (Ways::over(&parts, &symbols), m.r.below(4));
+    let bytes = buffer(&trees, close_extra, |n, children| ways.any(&mut m.r, &trees[n], children));
     Stored { trees: trees.len(), parts, symbols, bytes }
 }
 

@@ -21,10 +21,7 @@ fn exchanged(text: &mut Text, top: &TopSubtree, number: u32, leaf: &[u32; 13]) {
         return;
     }
     text.word("t");
-    let mut walk = top.walk_from(0);
-    while let Some(tree) = walk.advance() {
-        text.tree(&words::words(&tree));
-    }
+    words::trees(&top).iter().for_each(|tree| text.tree(&words::words(tree)));
     let (mut parts, mut symbols) = (top.part_list(), top.symbol_list());
     let below = parts.len() - 2;
     (parts[..below].sort(), symbols.sort());

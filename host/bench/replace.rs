@@ -17,17 +17,9 @@ struct Input<'a> {
     leaf: Leaf,
 }
 
-fn list_of(top: &TopSubtree) -> Vec<[u32; 13]> {
-    let (mut walk, mut list) = (top.walk_from(0), Vec::new());
-    while let Some(tree) = walk.advance() {
-        list.push(words::words(&tree));
-    }
-    list
-}
-
 /// The first ident behind the middle.
 fn input(buffer: &Buffer) -> Input<'_> {
-    let list = list_of(&buffer.top);
+    let list: Vec<[u32; 13]> = words::trees(&buffer.top).iter().map(words::words).collect();
     let number = (list.len() / 2..list.len()).find(|&n| list[n][0] == 1).expect("an ident");
     let mut words = list[number];
     words[1] = NEW;

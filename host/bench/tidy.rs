@@ -1,27 +1,19 @@
 //! Buffers put in order, as the writer made them and with every span in twelve bytes. Beside it our check, our walk and our writing over the
-//! same tables, which it does one after the other; the runs are lent again and again. The source reads the trees and writes them over maps
-//! that are made outside the time.
+//! same tables: tidying reads and writes as these do, one after the other. The runs are lent again and again. The source reads the trees and
+//! writes them over maps that are made outside the time.
 use crate::buffers::{Buffer, Case, cases, loose_cases};
 use crate::proved::{self, work_words};
 use crate::timing::{asked, best, printed};
 use crate::walks::walk_all;
 use crate::words;
 use std::hint::black_box;
-use tt::{TokenTree, TopSubtree};
+use tt::TopSubtree;
 
-/// How much of the writing's time is allowed.
+/// How much of the writing's time tidying may take beside the check's and the walk's.
 const SHARE: f64 = 1.05;
 
-fn source_trees(top: &TopSubtree) -> Vec<TokenTree> {
-    let (mut walk, mut trees) = (top.walk_from(0), Vec::with_capacity(top.trees()));
-    while let Some(tree) = walk.advance() {
-        trees.push(tree);
-    }
-    trees
-}
-
 fn list_of(buffer: &Buffer) -> Vec<u32> {
-    source_trees(&buffer.top).iter().flat_map(words::words).collect()
+    words::trees(&buffer.top).iter().flat_map(words::words).collect()
 }
 
 fn one(case: &Case) {
@@ -34,7 +26,7 @@ fn one(case: &Case) {
     let (mut sizes, mut written) = (vec![0; most + 1], vec![0; 33 * most]);
     let lists: Vec<Vec<u32>> = buffers.iter().map(list_of).collect();
     let maps: Vec<_> = buffers.iter().map(|b| TopSubtree::maps(&b.top.part_list(), &b.symbols)).collect();
-    let source = |i: usize| TopSubtree::encode_list(source_trees(&buffers[i].top), &maps[i]).0;
+    let source = |i: usize| TopSubtree::encode_list(words::trees(&buffers[i].top), &maps[i]).0;
     for (i, b) in buffers.iter().enumerate() {
         let bytes = proved::tidy(b.lent(), &mut work, &mut out).unwrap();
         assert!(out[..bytes] == *source(i));

@@ -116,10 +116,7 @@ fn source_alike(top: &TopSubtree, number: u32, leaf: &[u32; 13], want: &Result<R
     let mut top = top.clone();
     let Ok(want) = want else { return panics(|| top.set_token(number as usize, leaf)) };
     top.set_token(number as usize, leaf);
-    let (mut list, mut walk) = (Vec::new(), top.walk_from(0));
-    while let Some(tree) = walk.advance() {
-        list.extend(words::words(&tree));
-    }
+    let list: Vec<u32> = words::trees(&top).iter().flat_map(words::words).collect();
     let (parts, symbols) = (top.part_list(), top.symbol_list());
     let own_parts: Vec<[u32; 3]> = want.parts.chunks(3).map(|w| [w[0], w[1], w[2]]).collect();
     let below = own_parts.len() - 2;

@@ -11,7 +11,7 @@ use crate::tally::Tally;
 use crate::ways::{Ways, buffer};
 use crate::widened::walked;
 use crate::words;
-use tt::{TokenTree, TopSubtree};
+use tt::TopSubtree;
 
 // ---- what is held to what
 
@@ -101,15 +101,10 @@ impl Given {
     }
 }
 
-fn source_trees(top: &TopSubtree) -> Vec<TokenTree> {
-    let mut walk = top.walk_from(0);
-    std::iter::from_fn(|| walk.advance()).collect()
-}
-
 /// The source reads the same list, and writes the same bytes of it over first places in the same tables.
 fn source_alike(s: &Stored, want: &Tidied) -> bool {
     let top = s.unchecked();
-    let trees = source_trees(&top);
+    let trees = words::trees(&top);
     let list: Vec<u32> = trees.iter().flat_map(words::words).collect();
     let (bytes, _) = TopSubtree::encode_list(trees, &TopSubtree::maps(&top.part_list(), &s.symbols));
     list == want.list && *bytes == *want.bytes
@@ -253,7 +248,7 @@ fn flipped(r: &mut Random, s: &Stored) -> Option<Stored> {
 
 /// Two buffers over the same tables: equal bytes exactly if the source reads the same list from both.
 fn pair_alike(tally: &mut Tally, how: &str, a: &Stored, b: &Stored) -> bool {
-    let lists = [a, b].map(|s| source_trees(&s.unchecked()).iter().flat_map(words::words).collect::<Vec<u32>>());
+    let lists = [a, b].map(|s| words::trees(&s.unchecked()).iter().flat_map(words::words).collect::<Vec<u32>>());
     let (same, apart) = (lists[0] == lists[1], a.bytes != b.bytes);
     tally.answered(format!("{how}, {} list{}", if same { "one" } else { "another" }, if apart { "" } else { ", one buffer" }));
     (put_in_order(a) == put_in_order(b)) == same

@@ -1,7 +1,7 @@
 //! List words to the source's trees and back.
 use span::{EditionedFileId, ErasedFileAstId, Span, SpanAnchor, SyntaxContext, TextRange, TextSize};
 use intern::Symbol;
-use tt::{Delimiter, DelimiterKind, Ident, IdentIsRaw, Leaf, LitKind, Literal, Punct, Spacing, Subtree, TokenTree};
+use tt::{Delimiter, DelimiterKind, Ident, IdentIsRaw, Leaf, LitKind, Literal, Punct, Spacing, Subtree, TokenTree, TopSubtree};
 
 pub fn span(w: &[u32]) -> Span {
     Span {
@@ -90,4 +90,13 @@ pub fn words(tree: &TokenTree) -> [u32; 13] {
     words[3..8].copy_from_slice(&open);
     words[8..].copy_from_slice(&close);
     words
+}
+
+/// All trees of the source's buffer, as its walk reads them.
+pub fn trees(top: &TopSubtree) -> Vec<TokenTree> {
+    let (mut walk, mut trees) = (top.walk_from(0), Vec::with_capacity(top.trees()));
+    while let Some(tree) = walk.advance() {
+        trees.push(tree);
+    }
+    trees
 }

@@ -64,7 +64,7 @@ short-work = (refl, refl, refl, refl)
 abbrev over : List ℕ → ℕ → Stored
 over b k = record { bytes = b; trees = k; parts = files (7 ∷ 1 ∷ 2 ∷ []); symbols = [] }
 
--- "the check's own numbers" come first, with nothing lent: a cut tree is 7, an index past the table 8, one of the root's two parts below it too, no tree 1
+-- "the check's own numbers" come first, with nothing lent: a cut tree is 7, an index past the table 8, one of the root's two parts below it too, without a tree 1
 check-first : (report (over (around 1 1 7 ++ (0xC0 ∷ 0x80 ∷ 0x02 ∷ 0x00 ∷ 0x00 ∷ 0x00 ∷ [])) 2) 0 0 0 [] ≡ refusal 7 1)
     × (report (over (around 1 1 7 ++ (0xCC ∷ 0x80 ∷ 0x02 ∷ 0x00 ∷ 0x00 ∷ 0x00 ∷ 0x00 ∷ [])) 2) 0 0 0 [] ≡ refusal 8 1)
     × (report (over (around 1 1 7 ++ (0xC4 ∷ 0x80 ∷ 0x02 ∷ 0x00 ∷ 0x00 ∷ 0x00 ∷ 0x00 ∷ [])) 2) 0 0 0 [] ≡ refusal 8 1)

@@ -1,9 +1,10 @@
 -- What the answers of `tidy` mean: where it answers Wrote n, the first n bytes are the writer's for the same list over the same tables; it refuses where a
 -- row holds and nowhere else; two buffers get equal bytes exactly if they read as the same list.
-use Prim.Native.Nat.{ℕ, _≤_}
+use Prim.Native.Nat.{ℕ, _*_, _≤_}
 use mathlib.Core.Path.{_≡_, refl, sym, ap, _∙_, subst}
 use mathlib.Core.List.{List}
 use mathlib.Core.Logic.{_↔_}
+use native.Mathlib.Omega.{arith}
 use borrow.Author.Tests.{le-leb}
 use lib.ListN.{length, take}
 use Rattle.format.specs.Verdict.{Verdict, passed}
@@ -13,7 +14,7 @@ use Rattle.format.specs.Unpack.{listWork, tableWork, countWork, listOf}
 use Rattle.format.specs.Tidy.{tidied, tidyWork, tidyVerdict}
 use Rattle.format.proofs.Each.{refused-not}
 use Rattle.format.proofs.TableRuns.{run-length, run-take, run-drop}
-use Rattle.format.proofs.TidyLaw.{tidy-passes, tidy-list, tidy-loose, tidy-twice, tidy-same, TidyRow, ofCheck, shortWork, shortOut, tidy-refused, tidy-room}
+use Rattle.format.proofs.TidyLaw.{tidy-passes, tidy-list, tidy-loose, tidy-twice, tidy-most, tidy-same, TidyRow, ofCheck, shortWork, shortOut, tidy-refused, tidy-room}
 use Rattle.tree.specs.Refusal.{verdictAnswer, reportAnswer}
 use Rattle.tree.specs.declared.refusal.Refusal.{Refusal}
 use Rattle.tree.specs.declared.refusal.Report.{Report}
@@ -63,6 +64,11 @@ module _ (b : List ℕ) (k : ℕ) (parts symbols a c d x : List ℕ) (r : Report
       → length (tidied b k parts symbols) ≤ length x → r ≡ reports.Wrote (length (tidied b k parts symbols))
   unfolding reportAnswer tidyVerdict tidyWork
   tidied-given ok ha hc hd hx = T .answer ∙ simp (ok, le-leb _ _ ha, le-leb _ _ hc, le-leb _ _ hd, le-leb _ _ hx)
+
+  -- 33 bytes a tree are room enough
+  pub ample-given : bufferCheck b k parts symbols ≡ passed → listWork k ≤ length a → tableWork k ≤ length c → countWork k ≤ length d → 33 * k ≤ length x
+      → r ≡ reports.Wrote (length (tidied b k parts symbols))
+  ample-given ok ha hc hd hx = let m = tidy-most b k parts symbols ok in tidied-given ok ha hc hd (omega arith)
 
   -- each refusal is given exactly where its row holds …
   pub refused-is : (q : Refusal) → r ≡ reports.Refused q → TidyRow b k parts symbols (length a) (length c) (length d) x (q .number) (q .tree)

@@ -24,7 +24,7 @@ module _ (b : List ℕ) (k : ℕ) (parts symbols : List ℕ) where
 
   -- the work words are a, c and d, the output is x
   module _ (a c d x : List ℕ) where
-    -- what is lent holds then; c is not written
+    -- what the lent runs hold then; c is lent shared and stays
     pub record Contents (a′ d′ x′ : List ℕ) : Type 0 where
       pub bytes : x′ ≡ tidyOut b k parts symbols (length a) (length c) (length d) x
       pub listLeft : WorkLeft (tidyWork b k parts symbols (length a) (length c) (length d)) (listWork k) a a′

@@ -1,9 +1,9 @@
-// Work words: what a list that is read, its tables and its sizes take.
+// Work words: how many are asked for, for a list that is read, its tables and its sizes.
 use tree::raw::place;
 ghost use mathlib.Core.Path.{_≡_};
 ghost use Rattle.format.specs.Unpack.{workFits};
 
-// Work words for each tree and once more: of the list, of its tables, of counts and sizes.
+// For each tree and once more: the list's, its tables', those of counts and sizes.
 const LIST_WORK: usize = 16;
 
 const TABLE_WORK: usize = 10;

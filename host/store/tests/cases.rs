@@ -120,6 +120,10 @@ fn tidied(stored: &Stored) -> Stored {
     let tidy = stored.tidy();
     assert_eq!((tidy.trees(), tidy.parts(), tidy.symbols()), (stored.trees(), stored.parts(), stored.symbols()));
     assert_eq!(Stored::from_bundle(&tidy.to_bundle()).as_ref(), Ok(&tidy));
+    // with one leaf exchanged, over tables made afresh, they are one
+    for number in 1..stored.trees().min(20) {
+        assert_eq!(tidy.set_token(number, ident(9)), stored.set_token(number, ident(9)));
+    }
     assert_eq!(tidy.tidy(), tidy);
     tidy
 }

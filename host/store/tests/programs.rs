@@ -1,5 +1,6 @@
 //! The programs over files, and the header from C.
-use std::fs;
+use std::fs::{self, Permissions};
+use std::os::unix::fs::{PermissionsExt, symlink};
 use std::path::{Path, PathBuf};
 use std::process::Command;
 
@@ -83,6 +84,50 @@ fn the_loose_tariff_put_in_order() {
     assert_eq!(fs::read(&file).unwrap(), tariff);
 }
 
+/// A folder with the loose tariff alone.
+fn loose_alone(name: &str) -> (PathBuf, PathBuf) {
+    let folder = folder(name);
+    fs::remove_dir_all(&folder).unwrap();
+    fs::create_dir(&folder).unwrap();
+    let file = folder.join("tariff.bundle");
+    fs::copy(example("loose.bundle"), &file).unwrap();
+    (folder, file)
+}
+
+/// Through a link the file is written that it leads to; what it permits stays, and nothing is left beside it.
+#[test]
+fn a_link_and_a_file_for_its_owner() {
+    let (folder, file) = loose_alone("link");
+    let link = folder.join("link");
+    fs::set_permissions(&file, Permissions::from_mode(0o600)).unwrap();
+    symlink(&file, &link).unwrap();
+    assert_eq!(tidy(&file, &link).0, Some(0));
+    assert_eq!(fs::read(&file).unwrap(), fs::read(example("tariff.bundle")).unwrap());
+    assert_eq!(fs::metadata(&file).unwrap().permissions().mode() & 0o777, 0o600);
+    // and where it leads to no file yet
+    fs::rename(&file, folder.join("elsewhere")).unwrap();
+    assert_eq!(tidy(&folder.join("elsewhere"), &link).0, Some(0));
+    assert_eq!(fs::read(&file).unwrap(), fs::read(example("tariff.bundle")).unwrap());
+    assert!(fs::symlink_metadata(&link).unwrap().is_symlink());
+    assert_eq!(fs::read_dir(&folder).unwrap().count(), 3);
+}
+
+/// Where no byte can be written, a bundle in its own place stays, and nothing is left beside it.
+#[test]
+fn a_full_disk() {
+    let (folder, file) = loose_alone("full");
+    let (from, program) = (file.to_str().unwrap(), env!("CARGO_BIN_EXE_tidy"));
+    let no_room = "trap '' XFSZ; ulimit -f 0; exec \"$0\" \"$1\" \"$1\"";
+    let (status, printed, said) = run("sh", &["-c", no_room, program, from]);
+    assert_eq!((status, printed.len()), (Some(2), 0));
+    assert!(said.contains("tariff.bundle cannot be written"), "{said}");
+    assert_eq!(fs::read(&file).unwrap(), fs::read(example("loose.bundle")).unwrap());
+    assert_eq!(fs::read_dir(&folder).unwrap().count(), 1);
+    // a device takes the bytes as they come, or does not
+    assert_eq!(tidy(&file, Path::new("/dev/null")).0, Some(0));
+    assert_eq!(tidy(&file, Path::new("/dev/full")).0, Some(2));
+}
+
 /// Bytes and loose spans before are those of the lister's first line, and afterwards no span is loose. What is refused is not written.
 #[test]
 fn the_listers_cases_put_in_order() {
@@ -102,6 +147,10 @@ fn the_listers_cases_put_in_order() {
             let words: Vec<&str> = line.split(' ').collect();
             let due = [format!("bytes {} to ", words[3]), format!(", loose spans {} to 0\n", words[9])];
             assert!(status == Some(0) && printed.starts_with(&due[0]) && printed.ends_with(&due[1]), "{printed} for {line}");
+            // the file that was written has no other bytes in order
+            let bytes = printed.split([' ', ',']).nth(3).unwrap();
+            let again = format!("bytes {bytes} to {bytes}, loose spans 0 to 0\n");
+            assert_eq!(tidy(&to, &to), (Some(0), again, String::new()), "{line}");
             met[1] += 1;
         }
     }
