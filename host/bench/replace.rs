@@ -17,9 +17,13 @@ struct Input<'a> {
     leaf: Leaf,
 }
 
+pub fn list_of(top: &TopSubtree) -> Vec<[u32; 13]> {
+    words::trees(top).iter().map(words::words).collect()
+}
+
 /// The first ident behind the middle.
 fn input(buffer: &Buffer) -> Input<'_> {
-    let list: Vec<[u32; 13]> = words::trees(&buffer.top).iter().map(words::words).collect();
+    let list = list_of(&buffer.top);
     let number = (list.len() / 2..list.len()).find(|&n| list[n][0] == 1).expect("an ident");
     let mut words = list[number];
     words[1] = NEW;

@@ -3,6 +3,7 @@
 //! writes them over maps that are made outside the time.
 use crate::buffers::{Buffer, Case, cases, loose_cases};
 use crate::proved::{self, work_words};
+use crate::replace::list_of;
 use crate::timing::{asked, best, printed};
 use crate::walks::walk_all;
 use crate::words;
@@ -12,10 +13,6 @@ use tt::TopSubtree;
 /// How much of the writing's time tidying may take beside the check's and the walk's.
 const SHARE: f64 = 1.05;
 
-fn list_of(buffer: &Buffer) -> Vec<u32> {
-    words::trees(&buffer.top).iter().flat_map(words::words).collect()
-}
-
 fn one(case: &Case) {
     if !asked(&format!("tidy, {}", case.name)) {
         return;
@@ -24,7 +21,7 @@ fn one(case: &Case) {
     let most = buffers.iter().map(|b| b.trees as usize).max().unwrap();
     let (mut work, mut out) = (work_words(most).map(|n| vec![0; n]), vec![0; 33 * most]);
     let (mut sizes, mut written) = (vec![0; most + 1], vec![0; 33 * most]);
-    let lists: Vec<Vec<u32>> = buffers.iter().map(list_of).collect();
+    let lists: Vec<Vec<u32>> = buffers.iter().map(|b| list_of(&b.top).concat()).collect();
     let maps: Vec<_> = buffers.iter().map(|b| TopSubtree::maps(&b.top.part_list(), &b.symbols)).collect();
     let source = |i: usize| TopSubtree::encode_list(words::trees(&buffers[i].top), &maps[i]).0;
     for (i, b) in buffers.iter().enumerate() {
