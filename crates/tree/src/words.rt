@@ -51,7 +51,7 @@ ghost use Rattle.format.specs.Tree.{isRawKind};
 ghost use Rattle.format.specs.WordList.{wordOf, rawFrom, noClose, wordFields};
 ghost use Rattle.tree.specs.Listed.{openSpan, closeSpan};
 ghost use Rattle.tree.specs.Raw.{rawTree};
-ghost use Rattle.tree.specs.Types.{litKindWord, treeSpan, spanList, zeros, treeWordsOf};
+ghost use Rattle.tree.specs.Types.{litKindWord, treeSpan, spanList, treeWordsOf};
 ghost use Rattle.tree.specs.declared.types.TokenTree.the-variants as trees;
 ghost use Rattle.tree.specs.Words.{treeFrom, wordsAnswer, rawWordsAnswer, punctFrom, identFrom, literalFrom, subtreeFrom};
 ghost use Rattle.tree.specs.declared.words.WordsRead.the-variants as reads;
@@ -353,9 +353,8 @@ pub fn words_of(sort: u32, first: u32, second: u32, span: Span, closing: Span) -
     ]
 }
 
-// Those of a leaf, whose second span is zero.
-pub fn words_of_leaf(sort: u32, first: u32, second: u32, span: Span) -> [u32; TREE_WORDS]
-    ensures { λ r. ⌜ r ≡ (sort ∷ first ∷ second ∷ spanList span ++ zeros) ⌝ }
+fn leaf_words(leaf: Leaf) -> [u32; TREE_WORDS]
+    ensures { λ r. ⌜ r ≡ treeWordsOf (trees.Leaf leaf) ⌝ }
 {
     let none = Span {
         file: 0,
@@ -364,25 +363,19 @@ pub fn words_of_leaf(sort: u32, first: u32, second: u32, span: Span) -> [u32; TR
         start: 0,
         len: 0,
     };
-    words_of(sort, first, second, span, none)
-}
-
-fn leaf_words(leaf: Leaf) -> [u32; TREE_WORDS]
-    ensures { λ r. ⌜ r ≡ treeWordsOf (trees.Leaf leaf) ⌝ }
-{
     match leaf {
         Leaf::Punct(p) => {
             let spacing = p.spacing;
-            words_of_leaf(0, p.char, spacing_word(spacing), p.span)
+            words_of(0, p.char, spacing_word(spacing), p.span, none)
         }
         Leaf::Ident(p) => {
             let is_raw = p.is_raw;
-            words_of_leaf(1, p.sym, is_raw_word(is_raw), p.span)
+            words_of(1, p.sym, is_raw_word(is_raw), p.span, none)
         }
         Leaf::Literal(p) => {
             let kind = p.kind;
             let second = literal_word(kind, p.suffix_len);
-            words_of_leaf(2, p.text_and_suffix, second, p.span)
+            words_of(2, p.text_and_suffix, second, p.span, none)
         }
     }
 }

@@ -36,9 +36,9 @@ use Rattle.unpack.specs.Words.{leafList, subtreeList}
 pub entry-room : (n a i : ℕ) → a ≡ i → partSize * i + partSize ≤ n → partSize * a + partSize ≤ n
 entry-room n a i e h = rw e h
 
-pub leaf-listed : (t : List ℕ) (a i : ℕ) → a ≡ i → (q : PackedSpan) (s : Span) → s ≡ spanWith (partAt t a) (spanOf q) → (sort first second : ℕ) (r : List ℕ)
-    → r ≡ (sort ∷ first ∷ second ∷ spanList s ++ zeros) → r ≡ leafList (partAt t i) sort first second (spanOf q)
-leaf-listed t a i d q s e sort first second r g = g ∙ rw (e, d)
+pub leaf-listed : (t : List ℕ) (a i : ℕ) → a ≡ i → (q : PackedSpan) (s z : Span) → s ≡ spanWith (partAt t a) (spanOf q) → spanList z ≡ zeros
+    → (sort first second : ℕ) (r : List ℕ) → r ≡ (sort ∷ first ∷ second ∷ spanList s ++ spanList z) → r ≡ leafList (partAt t i) sort first second (spanOf q)
+leaf-listed t a i d q s z e f sort first second r g = g ∙ rw (e, d, f)
 
 pub subtree-listed : (t : List ℕ) (a c : ℕ) (p : RawSubtree) (s z : Span) → s ≡ spanWith (partAt t a) (spanOf (p .opening)) → z ≡ spanWith (partAt t c) (spanOf (p .closing))
     → (r : List ℕ) → r ≡ (3 ∷ p .len .0 ∷ p .kind ∷ spanList s ++ spanList z) → r ≡ subtreeList (partAt t a) (partAt t c) p

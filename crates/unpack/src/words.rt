@@ -8,8 +8,8 @@ use tree::raw::RawLiteral;
 use tree::raw::RawSubtree;
 use tree::raw::RawTree;
 use tree::raw::place;
+use tree::types::Span;
 use tree::words::words_of;
-use tree::words::words_of_leaf;
 use width::TREE_WORDS;
 ghost use mathlib.Core.Path.{_≡_};
 ghost use mathlib.Core.Bool.{true};
@@ -36,7 +36,14 @@ fn leaf_words(
     ensures { λ r. ⌜ r ≡ leafList (partAt (now (parts .entry)) (span .index)) sort first second (spanOf span) ⌝ }
 {
     let at = place(span.index);
-    words_of_leaf(sort, first, second, span_from(parts, at, span))
+    let none = Span {
+        file: 0,
+        ast_id: 0,
+        context: 0,
+        start: 0,
+        len: 0,
+    };
+    words_of(sort, first, second, span_from(parts, at, span), none)
 }
 
 // Kind, raw count and suffix length in one word.

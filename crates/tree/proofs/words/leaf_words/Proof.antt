@@ -9,8 +9,8 @@ enum-known-leaf c = search (needs, list-cases)
 spacing-word-requires : tie.Need-spacing-word-requires
 spacing-word-requires c κs = search (needs, list-cases)
 
-words-of-leaf-requires : tie.Need-words-of-leaf-requires
-words-of-leaf-requires c κs = search (needs, list-cases)
+words-of-requires : tie.Need-words-of-requires
+words-of-requires c κs = search (needs, list-cases)
 
 enum-known-leaf-2 : tie.Need-enum-known-leaf-2
 enum-known-leaf-2 c = search (needs, list-cases)
@@ -18,8 +18,8 @@ enum-known-leaf-2 c = search (needs, list-cases)
 is-raw-word-requires : tie.Need-is-raw-word-requires
 is-raw-word-requires c κs = search (needs, list-cases)
 
-words-of-leaf-requires-2 : tie.Need-words-of-leaf-requires-2
-words-of-leaf-requires-2 c κs = search (needs, list-cases)
+words-of-requires-2 : tie.Need-words-of-requires-2
+words-of-requires-2 c κs = search (needs, list-cases)
 
 enum-known-leaf-3 : tie.Need-enum-known-leaf-3
 enum-known-leaf-3 c = search (needs, list-cases)
@@ -27,8 +27,8 @@ enum-known-leaf-3 c = search (needs, list-cases)
 literal-word-requires : tie.Need-literal-word-requires
 literal-word-requires c κs = search (needs, list-cases)
 
-words-of-leaf-requires-3 : tie.Need-words-of-leaf-requires-3
-words-of-leaf-requires-3 c κs = search (needs, list-cases)
+words-of-requires-3 : tie.Need-words-of-requires-3
+words-of-requires-3 c κs = search (needs, list-cases)
 
 returns : tie.Need-returns
 returns c = search (needs, list-cases)
@@ -45,13 +45,13 @@ leaf-words-spec =
     (tie.spec
     enum-known-leaf
     spacing-word-requires
-    words-of-leaf-requires
+    words-of-requires
     enum-known-leaf-2
     is-raw-word-requires
-    words-of-leaf-requires-2
+    words-of-requires-2
     enum-known-leaf-3
     literal-word-requires
-    words-of-leaf-requires-3
+    words-of-requires-3
     returns
     returns-2
     returns-3)

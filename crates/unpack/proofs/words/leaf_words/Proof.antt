@@ -9,11 +9,11 @@ place-requires c κs = search (needs, one-cases)
 span-from-requires : tie.Need-span-from-requires
 span-from-requires c κs = search (needs, one-cases)
 
-words-of-leaf-requires : tie.Need-words-of-leaf-requires
-words-of-leaf-requires c κs = search (needs, one-cases)
+words-of-requires : tie.Need-words-of-requires
+words-of-requires c κs = search (needs, one-cases)
 
 returns : tie.Need-returns
 returns c = search (needs, one-cases)
 
 pub leaf-words-spec : {M : Type 1} → statement M
-leaf-words-spec = tie.close (tie.spec place-requires span-from-requires words-of-leaf-requires returns)
+leaf-words-spec = tie.close (tie.spec place-requires span-from-requires words-of-requires returns)
