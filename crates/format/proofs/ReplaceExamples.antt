@@ -1,4 +1,4 @@
--- One leaf exchanged in small buffers (document 02, ticket 1); the bytes expected are worked out from document 01's layout.
+-- One leaf exchanged in small buffers (document 02, ticket 1), and the size before (ticket 4); the bytes expected are worked out from document 01's layout.
 use Prim.Native.Nat.{ℕ, zero, suc, _+_, _*_}
 use mathlib.Core.Path.{_≡_, refl}
 use mathlib.Core.List.{List, [], _∷_, _++_}
@@ -18,6 +18,7 @@ use Rattle.format.specs.Distinct.{anyIn, tally, news}
 use Rattle.format.specs.Order.{range, before, insert, falling, ordered}
 use Rattle.format.specs.MakeTables.{keyCount, liveAt, keyPlace, alikeAt, limitOf, keysOf, timesOf, tableKeys, wordsOf, tableWords, partTable, symbolTable}
 use Rattle.format.specs.Replace.{freshBytes, ReplaceReport, replaced, refusal, isLeaf, exchanged, replaceVerdict, replaceWork, replaceOut, replaceReport, bytesOut, partsOut, symbolsOut}
+use Rattle.format.specs.Preview.{previewReport}
 use Rattle.format.specs.Unpack.{listOf}
 
 -- a buffer, how many trees it has, its part words and its symbols
@@ -47,6 +48,11 @@ module _ (s : Stored) (n : ℕ) (w : List ℕ) where
   asked : Verdict
   unfolding old replaceVerdict isLeaf check eachFrom nestFrom stillOpen rawFrom
   asked = replaceVerdict (s .bytes) (s .trees) (s .parts) (s .symbols) n w
+
+  -- so many work words
+  preview : (a c d : ℕ) → ReplaceReport
+  unfolding new fresh asked replaceWork
+  preview a c d = previewReport (s .bytes) (s .trees) (s .parts) (s .symbols) n w a c d
 
   -- so many work words, and the outputs
   module _ (a c d : ℕ) (x y z : List ℕ) where
@@ -308,3 +314,23 @@ short-symbols : (report one 1 other 48 30 18 (replicate 38 9) (replicate 9 8) []
     × (after one 1 other 48 30 18 (replicate 38 9) (replicate 9 8) [] ≡ replicate 38 9 ∷ replicate 9 8 ∷ [] ∷ [])
 unfolding after
 short-symbols = (refl, refl)
+
+-- ---- "Show the size before replacing"
+
+-- "the byte length and both table sizes", in entries: 9 part words are 3 parts. `nested` has 45 bytes, `loose` 43, with 5 parts and 3 symbols
+sizes : (preview one 1 other 48 30 18 ≡ replaced 38 3 1) × (preview one 1 (punctOf 43 0 7 10) 48 30 18 ≡ replaced 38 3 0)
+    × (preview nested 2 (identOf 100 0 7 131072) 64 40 24 ≡ replaced 49 3 1)
+    × (preview loose 1 (identOf 100 0 7 10) 48 30 18 ≡ replaced 38 3 1)
+unfolding preview
+sizes = (refl, refl, refl, refl)
+
+-- "refusals included": the check's, 10, 2
+as-replacing : (preview (damaged (around 1 1 5 ++ (0x42 ∷ 0x00 ∷ 0x05 ∷ 0x00 ∷ [])) (one .parts)) 9 noLeaf 0 0 0 ≡ refusal 7 1)
+    × (preview one 2 noLeaf 0 0 0 ≡ refusal 10 2) × (preview one 1 noLeaf 0 0 0 ≡ refusal 2 1)
+unfolding preview
+as-replacing = (refl, refl, refl)
+
+-- "6 can then come only from a short work run": each one short
+short-alone : (preview one 1 other 47 30 18 ≡ refusal 6 0) × (preview one 1 other 48 29 18 ≡ refusal 6 0) × (preview one 1 other 48 30 17 ≡ refusal 6 0)
+unfolding preview
+short-alone = (refl, refl, refl)

@@ -36,7 +36,7 @@ same-sizes i p s j q t e = (cc, cc, cc)
 same-refusal : (x y : Refusal) → answers.Refused x ≡ answers.Refused y → x ≡ y
 same-refusal x y e = cc
 
-answer-replaced : (l : List ℕ) (v : Verdict) (i p s : ℕ) → replaceAnswer (reportOf l v) ≡ answers.Replaced i p s
+pub answer-replaced : (l : List ℕ) (v : Verdict) (i p s : ℕ) → replaceAnswer (reportOf l v) ≡ answers.Replaced i p s
     → (v ≡ passed) × (length (freshBytes l) ≡ i) × (partTotal l ≡ p) × (length (symbolTable l) ≡ s)
 unfolding replaceAnswer
 answer-replaced l passed i p s e =
@@ -44,7 +44,7 @@ answer-replaced l passed i p s e =
     (refl, q .0, q .1, q .2)
 answer-replaced l (refused r m) i p s e = replaced-refused i p s _ (sym e)
 
-answer-refused : (l : List ℕ) (v : Verdict) (x : Refusal) → replaceAnswer (reportOf l v) ≡ answers.Refused x → v ≡ refused (x .number) (x .tree)
+pub answer-refused : (l : List ℕ) (v : Verdict) (x : Refusal) → replaceAnswer (reportOf l v) ≡ answers.Refused x → v ≡ refused (x .number) (x .tree)
 unfolding replaceAnswer
 answer-refused l passed x e = replaced-refused _ _ _ x e
 answer-refused l (refused r m) x e = ap (λ (y : Refusal). refused (y .number) (y .tree)) (same-refusal _ x e)

@@ -37,7 +37,7 @@ use Rattle.tables.specs.Made.{PartsMade}
 use Rattle.tables.proofs.MakeReturns.{rows-some, rows-most, rows-fit}
 use Rattle.writer.specs.Written.{Written}
 use Rattle.replace.specs.Report.{replaceAnswer}
-use Rattle.replace.specs.Fresh.{symbolsAt, SymbolsMade, Held, Tabled, TablePut, tablesOf, stored, OutputsPut, Put, Freshly}
+use Rattle.replace.specs.Fresh.{symbolsAt, SymbolsMade, Held, Tabled, TablePut, tablesOf, stored, OutputsPut, Put}
 use Rattle.replace.specs.declared.report.ReplaceReport.{ReplaceReport}
 use Rattle.replace.specs.declared.report.ReplaceReport.the-variants as answers
 use Rattle.replace.specs.declared.fresh.Counted.{Counted}
@@ -389,18 +389,3 @@ module _ (l : List ℕ) (rows : listRows l ≡ passed) (made : Counted) (t : Lis
     writer-passes = (λ i. listVerdict (parts-are i) (symbols-are i) l) ∙ own-passes l rows
 
 pub ruleset made-cases = (rows-most, made-parts-small, made-parts-inside, made-end-small, made-symbols-inside, parts-are, symbols-are, writer-passes, kept)
-
--- ---- tables and bytes
-
-module _ (l t t₁ c c₁ : List ℕ) (made : Counted) (T : Tabled l made t t₁ c c₁) where
-  pub tables-held : Held l made t₁
-  tables-held = T .held
-
-  pub counts-still : countWork (listCount l) ≤ length c → length c₁ ≡ length c → countWork (listCount l) ≤ length c₁
-  counts-still g q = omega arith
-
-  pub fresh-put : (x y z x′ y′ z′ c₂ : List ℕ) (r : ReplaceReport) → Put l x y z r c₁ c₂ x′ y′ z′ → Freshly l x y z r t t₁ c c₂ x′ y′ z′
-  fresh-put x y z x′ y′ z′ c₂ r P =
-      record { outputs = P .outputs; tablesBehind = T .tablesBehind; countsBehind = P .countsBehind ∙ T .countsBehind }
-
-pub ruleset fresh-cases = (tables-held, counts-still, fresh-put, kept)

@@ -81,9 +81,3 @@ module _ (l x y z : List ℕ) where
   pub record Put (r : ReplaceReport) (c c′ x′ y′ z′ : List ℕ) : Type 0 where
     pub outputs : Outputs r x′ y′ z′
     pub countsBehind : drop (countWork (listCount l)) c′ ≡ drop (countWork (listCount l)) c
-
-  -- … and the tables' too
-  pub record Freshly (r : ReplaceReport) (t t′ c c′ x′ y′ z′ : List ℕ) : Type 0 where
-    pub outputs : Outputs r x′ y′ z′
-    pub tablesBehind : drop (tableWork (listCount l)) t′ ≡ drop (tableWork (listCount l)) t
-    pub countsBehind : drop (countWork (listCount l)) c′ ≡ drop (countWork (listCount l)) c

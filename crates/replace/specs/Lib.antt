@@ -1,4 +1,6 @@
 pub mod Report
 pub mod Fresh
+pub mod Prepared
 pub mod Replaced
 pub mod Exchanged
+pub mod Previewed

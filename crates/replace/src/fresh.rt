@@ -19,7 +19,7 @@ ghost use Rattle.format.specs.Writer.{listVerdict};
 ghost use Rattle.format.specs.MakeTables.{partTable, symbolTable};
 ghost use Rattle.format.specs.Unpack.{tableWork, countWork};
 ghost use Rattle.replace.specs.Fresh.{symbolsAt, SymbolsMade, Held, Tabled};
-ghost use Rattle.replace.specs.Fresh.{TablePut, tablesOf, OutputsPut, Put, Freshly};
+ghost use Rattle.replace.specs.Fresh.{TablePut, tablesOf, OutputsPut, Put};
 
 // How many parts and symbols there are.
 pub struct Counted {
@@ -28,7 +28,7 @@ pub struct Counted {
 }
 
 // The symbols of k trees stand behind room for two parts a tree.
-fn symbols_at(k: usize) -> usize
+pub(crate) fn symbols_at(k: usize) -> usize
     requires { ⌜ k ≤ 1048576 ⌝ }
     ensures { λ r. ⌜ r ≡ symbolsAt k ⌝ }
 {
@@ -47,7 +47,7 @@ fn make_symbols(l: &[u32], at: usize, tables: &mut [u32], counts: &mut [u32]) ->
 }
 
 // Both tables in one run, one after the other: the counts, which nobody asks for, share another.
-fn make_tables(l: &[u32], tables: &mut [u32], counts: &mut [u32]) -> Counted
+pub(crate) fn make_tables(l: &[u32], tables: &mut [u32], counts: &mut [u32]) -> Counted
     requires { ⌜ listRows (now l) ≡ passed ⌝ }
     requires { ⌜ tableWork (listCount (now l)) ≤ length (now tables) ⌝ }
     requires { ⌜ countWork (listCount (now l)) ≤ length (now counts) ⌝ }
@@ -86,7 +86,7 @@ fn put_table(
 
 // How many tables have entries: there are always parts, the root's two. Were it a constant, the compiler would undo the
 // calls of `put_outputs` to itself.
-fn tables_of(symbols: &[u32]) -> usize
+pub(crate) fn tables_of(symbols: &[u32]) -> usize
     ensures { λ r. ⌜ r ≡ tablesOf (now (symbols .entry)) ⌝ }
 {
     if symbols.len() == 0 {
@@ -196,7 +196,7 @@ fn put_fresh(
 }
 
 // The same of tables that stand in work words.
-fn put_made(
+pub(crate) fn put_made(
     l: &[u32],
     made: Counted,
     tables: &[u32],
@@ -224,25 +224,4 @@ fn put_made(
         out_parts,
         out_symbols,
     )
-}
-
-// The tables of a list that has passed rows 1 to 4, and its bytes over them.
-pub(crate) fn write_fresh(
-    l: &[u32],
-    tables: &mut [u32],
-    counts: &mut [u32],
-    out: &mut [u8],
-    out_parts: &mut [u32],
-    out_symbols: &mut [u32],
-) -> ReplaceReport
-    requires { ⌜ listRows (now l) ≡ passed ⌝ }
-    requires { ⌜ tableWork (listCount (now l)) ≤ length (now tables) ⌝ }
-    requires { ⌜ countWork (listCount (now l)) ≤ length (now counts) ⌝ }
-    ensures { λ r. ⌜ Freshly (now (l .entry)) (now (out .entry)) (now («out_parts» .entry))
-        (now («out_symbols» .entry)) r
-        (now (tables .entry)) (now (tables .exit)) (now (counts .entry)) (now (counts .exit))
-        (now (out .exit)) (now («out_parts» .exit)) (now («out_symbols» .exit)) ⌝ }
-{
-    let made = make_tables(l, tables, counts);
-    put_made(l, made, tables, counts, out, out_parts, out_symbols)
 }

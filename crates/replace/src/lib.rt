@@ -1,5 +1,7 @@
 // One leaf of a stored list exchanged: new bytes over new tables.
 mod fresh;
 mod judge;
+mod prepare;
+pub mod preview;
 pub mod report;
 pub mod set_token;

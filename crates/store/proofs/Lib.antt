@@ -1,2 +1,3 @@
 pub mod SetReturns
+pub mod PreviewReturns
 pub mod TidyReturns

@@ -7,7 +7,7 @@ ghost use mathlib.Core.Path.{_≡_};
 ghost use Rattle.store.specs.Told.{Told, SetTold};
 
 // 0 and the three sizes, or a refusal's number and its tree.
-fn tell(report: ReplaceReport, told: &mut [usize; 3]) -> u32
+pub(crate) fn tell(report: ReplaceReport, told: &mut [usize; 3]) -> u32
     ensures { λ r. ⌜ Told report r (now (told .exit)) ⌝ }
 {
     match report {
