@@ -1,8 +1,8 @@
 //! One leaf exchanged: an ident in the middle of a list gets a new symbol. Ours begins with the check of the buffer. Its runs are lent again
-//! and again, as a host would do it; the source makes its own in the call.
+//! and again, as a host would do it; the source makes its own in the call. Then the size before, beside the exchange: the source has none.
 use crate::buffers::{Buffer, Case, cases};
 use crate::proved::{self, Lent, Runs, work_words};
-use crate::timing::rows_with;
+use crate::timing::{asked, best, printed, rows_with};
 use crate::words;
 use std::hint::black_box;
 use tt::{Leaf, TokenTree, TopSubtree};
@@ -42,11 +42,16 @@ fn same(i: &Input<'_>, runs: &mut Runs) -> bool {
     list_of(&TopSubtree::of(i.buffer.trees as usize, bytes, &part_list, symbols)) == list_of(&top)
 }
 
+/// Enough for so many trees.
+fn runs(trees: usize) -> Runs {
+    let work = work_words(trees).map(|n| vec![0; n]);
+    Runs { work, bytes: vec![0; 33 * trees], parts: vec![0; 6 * trees], symbols: vec![0; trees] }
+}
+
 fn one(case: &Case) {
     let inputs: Vec<Input<'_>> = case.buffers.iter().map(input).collect();
     let most = case.buffers.iter().map(|b| b.trees as usize).max().unwrap();
-    let work = work_words(most).map(|n| vec![0; n]);
-    let mut runs = Runs { work, bytes: vec![0; 33 * most], parts: vec![0; 6 * most], symbols: vec![0; most] };
+    let mut runs = runs(most);
     assert!(inputs.iter().all(|i| same(i, &mut runs)));
     rows_with(
         ["set_token", &case.name],
@@ -67,8 +72,29 @@ fn one(case: &Case) {
     );
 }
 
+/// The preview beside replacing, in turn.
+fn preview(case: &Case) {
+    let what = format!("preview beside set_token, {}", case.name);
+    if !asked(&what) {
+        return;
+    }
+    let inputs: Vec<Input<'_>> = case.buffers.iter().map(input).collect();
+    let most = case.buffers.iter().map(|b| b.trees as usize).max().unwrap();
+    let (mut runs, mut work) = (runs(most), work_words(most).map(|n| vec![0; n]));
+    for i in &inputs {
+        let told = proved::preview(i.buffer.lent(), i.number, &i.words, &mut work);
+        assert_eq!(told, proved::set_token(i.buffer.lent(), i.number, &i.words, &mut runs));
+    }
+    let [before, after] = best([
+        &mut || inputs.iter().for_each(|i| _ = black_box(proved::preview(i.buffer.lent(), i.number, &i.words, &mut work).unwrap())),
+        &mut || inputs.iter().for_each(|i| _ = black_box(proved::set_token(i.buffer.lent(), i.number, &i.words, &mut runs).unwrap())),
+    ]);
+    printed(&what, case.trees(), before, after);
+}
+
 pub fn run() {
     for case in cases(&[(1_000, 300), (30_000, 1), (1_048_576, 1)]) {
         one(&case);
+        preview(&case);
     }
 }

@@ -105,6 +105,16 @@ mod raw {
             out_symbols: *mut u32, out_symbol_words: usize,
             told: *mut usize,
         ) -> u32;
+        pub fn tt_preview(
+            b: *const u8, len: usize, trees: u32,
+            parts: *const u32, part_words: usize,
+            symbols: *const u32, symbol_words: usize,
+            number: u32, leaf: *const u32,
+            list: *mut u32, list_words: usize,
+            tables: *mut u32, table_words: usize,
+            counts: *mut u32, count_words: usize,
+            told: *mut usize,
+        ) -> u32;
         pub fn tt_tidy(
             b: *const u8, len: usize, trees: u32,
             parts: *const u32, part_words: usize,
@@ -315,11 +325,31 @@ pub fn set_token(b: Lent, number: u32, leaf: &[u32; 13], to: &mut Runs) -> Resul
             told.as_mut_ptr(),
         )
     };
+    sizes_told(refusal, told)
+}
+
+fn sizes_told(refusal: u32, told: [usize; 3]) -> Result<[usize; 3], (u64, u64)> {
     if refusal == 0 {
         return Ok(told);
     }
     assert_eq!(told[1..], [0; 2]);
     Err((refusal.into(), told[0] as u64))
+}
+
+/// The same before anything is exchanged, in the work words alone.
+#[inline]
+pub fn preview(b: Lent, number: u32, leaf: &[u32; 13], work: &mut [Vec<u32>; 3]) -> Result<[usize; 3], (u64, u64)> {
+    let mut told = [usize::MAX; 3];
+    let [list, tables, counts] = work;
+    let refusal = unsafe {
+        raw::tt_preview(
+            b.bytes.as_ptr(), b.bytes.len(), b.trees, b.parts.as_ptr(), b.parts.len(), b.symbols.as_ptr(), b.symbols.len(),
+            number, leaf.as_ptr(),
+            list.as_mut_ptr(), list.len(), tables.as_mut_ptr(), tables.len(), counts.as_mut_ptr(), counts.len(),
+            told.as_mut_ptr(),
+        )
+    };
+    sizes_told(refusal, told)
 }
 
 // ---- a buffer put in order

@@ -1,4 +1,5 @@
-//! One leaf of a stored buffer exchanged: the new buffer and tables in every room, beside the plain version and the source's `set_token`.
+//! One leaf of a stored buffer exchanged: the size before, the new buffer and tables in every room, beside the plain version and the source's
+//! `set_token`.
 use crate::buffers::{Stored, stored};
 use crate::maker::{Maker, loose};
 use crate::plain_list::{self, Refusal};
@@ -87,10 +88,37 @@ impl Given {
         (reply != expected || runs != after).then(|| format!("{reply:?} in room {room:?}, wanted {expected:?}{runs_differ}"))
     }
 
-    /// A leaf put at a tree number, in all rooms; then by the source.
+    /// What is told before, and all work words, of which there are so many; else what differs.
+    fn before(&self, tally: &mut Tally, number: u32, leaf: &[u32; 13], want: &Result<Replaced, Refusal>, room: [usize; 3]) -> Option<String> {
+        let mut runs = room.map(|n| vec![0xAAAA_AAAA; n]);
+        let mut after = runs.clone();
+        let work = work_words(self.stored.trees as usize);
+        let expected = match want {
+            Err(refusal) => Err(*refusal),
+            Ok(_) if (0..3).any(|i| room[i] < work[i]) => Err((6, 0)),
+            Ok(w) => Ok([w.bytes.len(), w.parts.len() / 3, w.symbols.len()]),
+        };
+        tally.answered(expected.map_or_else(|(number, _)| format!("preview refused {number}"), |_| "previewed".into()));
+        let reply = proved::preview(self.stored.lent(), number, leaf, &mut runs);
+        if expected.is_ok() {
+            // what the work words hold is open, but not behind their share
+            for (after, (run, n)) in after.iter_mut().zip(runs.iter().zip(work)) {
+                after[..n].copy_from_slice(&run[..n]);
+            }
+        }
+        let runs_differ = if runs == after { "" } else { ", other contents" };
+        (reply != expected || runs != after).then(|| format!("preview {reply:?} in room {room:?}, wanted {expected:?}{runs_differ}"))
+    }
+
+    /// A leaf put at a tree number, in all rooms, and the size before in the work words of these; then by the source.
     fn exchange(&self, tally: &mut Tally, r: &mut Random, number: u32, leaf: &[u32; 13]) {
         let want = set_token(&self.held, number, leaf);
         let rooms = self.rooms(r, &want);
+        let mut works: Vec<[usize; 3]> = rooms.iter().map(|room| [room[0], room[1], room[2]]).collect();
+        works.sort();
+        works.dedup();
+        let told: Vec<String> = works.into_iter().filter_map(|room| self.before(tally, number, leaf, &want, room)).collect();
+        tally.case(told.is_empty(), || format!("{}: tree {number} becomes {leaf:?}: {}", self.what, told[0]));
         let differs: Vec<String> = rooms.into_iter().filter_map(|room| self.in_room(tally, number, leaf, &want, room)).collect();
         tally.case(differs.is_empty(), || format!("{}: tree {number} becomes {leaf:?}: {}", self.what, differs[0]));
         // a bad leaf has no value in the source
@@ -99,7 +127,8 @@ impl Given {
             && plain_list::fields(leaf)
         {
             tally.answered(format!("source's {}", if want.is_ok() { "exchanged" } else { "panic" }));
-            tally.case(source_alike(top, number, leaf, &want), || format!("source's, {}: tree {number} becomes {leaf:?}", self.what));
+            let alike = source_alike(tally, top, number, leaf, &want);
+            tally.case(alike, || format!("source's, {}: tree {number} becomes {leaf:?}", self.what));
         }
     }
 }
@@ -109,9 +138,12 @@ fn sorted<T: Ord>(mut entries: Vec<T>) -> Vec<T> {
     entries
 }
 
-/// The source's list and its sets of parts and symbols are ours, and our writer's bytes over its tables are its own. Where ours is 10, it
-/// gives up.
-fn source_alike(top: &TopSubtree, number: u32, leaf: &[u32; 13], want: &Result<Replaced, Refusal>) -> bool {
+/// Parts below the root and symbols that are few enough for a tree to have one size whatever their order.
+const ANY_ORDER: (usize, usize) = (16, 64);
+
+/// The source's list and its sets of parts and symbols are ours, and our writer's bytes over its tables are its own; so is the byte length
+/// that we tell, where the order does not matter. Where ours is 10, it gives up.
+fn source_alike(tally: &mut Tally, top: &TopSubtree, number: u32, leaf: &[u32; 13], want: &Result<Replaced, Refusal>) -> bool {
     let TokenTree::Leaf(leaf) = words::tree(leaf) else { unreachable!() };
     let mut top = top.clone();
     let Ok(want) = want else { return panics(|| top.set_token(number as usize, leaf)) };
@@ -126,7 +158,10 @@ fn source_alike(top: &TopSubtree, number: u32, leaf: &[u32; 13], want: &Result<R
         && sorted(symbols.clone()) == sorted(want.symbols.clone());
     let (mut work, mut out) = (vec![0; top.trees() + 1], vec![0; top.bytes().len()]);
     let wrote = proved::encode_list(&list, &parts.concat(), &symbols, &mut work, &mut out);
-    list == want.list && tables && wrote == Ok(out.len() as u64) && *out == *top.bytes()
+    let as_long = want.bytes.len() == out.len();
+    tally.answered(format!("source's bytes {}", if as_long { "as many" } else { "of another number" }));
+    let as_long = as_long || below > ANY_ORDER.0 || symbols.len() > ANY_ORDER.1;
+    list == want.list && tables && wrote == Ok(out.len() as u64) && *out == *top.bytes() && as_long
 }
 
 // ---- every small list
@@ -215,6 +250,7 @@ pub fn every_small_list(tally: &mut Tally) {
         }
     }
     tally.assert_answered(&["exchanged", "refused 2", "refused 6", "refused 10", "source's exchanged", "source's panic"], 10_000);
+    tally.assert_answered(&["previewed", "preview refused 2", "preview refused 6", "preview refused 10"], 10_000);
 }
 
 // ---- random lists
@@ -284,6 +320,9 @@ pub fn random(tally: &mut Tally, buffers: u64) {
     let refusals = [1, 2, 3, 6, 7, 8, 9, 10].map(|n| format!("refused {n}"));
     tally.assert_answered(&["exchanged", "source's exchanged", "source's panic"], buffers / 10);
     tally.assert_answered(&refusals.each_ref().map(String::as_str), buffers / 200);
+    let before = refusals.map(|refusal| format!("preview {refusal}"));
+    tally.assert_answered(&["previewed"], buffers / 10);
+    tally.assert_answered(&before.each_ref().map(String::as_str), buffers / 200);
 }
 
 /// Each field of a leaf at its limits and past them, for a leaf, a subtree and the root, at the count and far past it; in a buffer that the
@@ -305,6 +344,7 @@ pub fn bad_leaves(tally: &mut Tally) {
         }
     }
     tally.assert_answered(&["exchanged", "refused 2", "refused 10", "refused 7"], 100);
+    tally.assert_answered(&["previewed", "preview refused 2", "preview refused 10", "preview refused 7"], 100);
 }
 
 fn at_limits() -> Vec<[u32; 13]> {
@@ -346,13 +386,14 @@ pub fn every_length(tally: &mut Tally) {
                     if a != b {
                         room[b] = exact[b].saturating_sub(1);
                     }
-                    let differs = given.in_room(tally, 1, leaf, &want, room);
+                    let told = given.before(tally, 1, leaf, &want, [room[0], room[1], room[2]]);
+                    let differs = told.or_else(|| given.in_room(tally, 1, leaf, &want, room));
                     tally.case(differs.is_none(), || format!("{}: tree 1 becomes {leaf:?}: {}", given.what, differs.unwrap()));
                 }
             }
         }
     }
-    tally.assert_answered(&["exchanged", "refused 6"], 100);
+    tally.assert_answered(&["exchanged", "refused 6", "previewed", "preview refused 6"], 100);
 }
 
 // ---- at the limits of sizes

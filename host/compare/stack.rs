@@ -60,7 +60,7 @@ fn read_alike(bytes: &[u8], trees: u32, parts: &[u32], symbols: &[u32]) -> bool 
     last == Ok(1) && steps == [Ok(1); 2] && calls == [Ok(3); 2] && (kind, spans, checked) == (Ok(()), Ok(()), Ok(()))
 }
 
-/// The last tree becomes an ident with a part and a symbol of its own, or is a subtree and stays.
+/// The last tree becomes an ident with a part and a symbol of its own, or is a subtree and stays; as told before.
 fn replaced_alike(list: &[u32], bytes: &[u8], parts: &[u32], symbols: &[u32]) -> bool {
     let trees = list.len() / 13;
     let (number, leaf) = (trees as u32 - 1, [1, u32::MAX, 1, u32::MAX, 0, 0, 5, 1, 0, 0, 0, 0, 0]);
@@ -68,11 +68,14 @@ fn replaced_alike(list: &[u32], bytes: &[u8], parts: &[u32], symbols: &[u32]) ->
     let sizes = want.as_ref().map_or([0; 3], |w| [w.bytes.len(), w.parts.len(), w.symbols.len()]);
     let work = work_words(trees).map(|n| vec![0; n]);
     let mut runs = Runs { work, bytes: vec![0; sizes[0]], parts: vec![0; sizes[1]], symbols: vec![0; sizes[2]] };
-    let reply = proved::set_token(Lent { bytes, trees: trees as u32, parts, symbols }, number, &leaf, &mut runs);
-    match want {
+    let lent = Lent { bytes, trees: trees as u32, parts, symbols };
+    let before = proved::preview(lent, number, &leaf, &mut runs.work);
+    let reply = proved::set_token(lent, number, &leaf, &mut runs);
+    let same = match want {
         Ok(w) => reply == Ok([sizes[0], sizes[1] / 3, sizes[2]]) && (runs.bytes, runs.parts, runs.symbols) == (w.bytes, w.parts, w.symbols),
         Err(refusal) => reply == Err(refusal),
-    }
+    };
+    same && before == reply
 }
 
 /// Every tree in its longest form, put in order.

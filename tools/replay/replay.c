@@ -358,6 +358,30 @@ static bool unchanged_behind(const size_t *told) {
     return memcmp(&fresh, &noise, sizeof fresh) == 0;
 }
 
+/* What is told before, with work words for the list as long as asked or shorter by some. What lies behind them stays, after a refusal
+ * all of them. */
+static uint32_t preview(uint32_t number, const uint32_t *leaf, size_t less, size_t *told) {
+    static uint32_t work[TT_LIST_WORK(TREES) + TT_TABLE_WORK(TREES) + TT_COUNT_WORK(TREES)];
+    uint32_t *tables = work + TT_LIST_WORK(trees), *counts = tables + TT_TABLE_WORK(trees);
+    memset(work, NOISE, sizeof work);
+    uint32_t reply = tt_preview(bytes, byte_count, (uint32_t)trees, parts, 3 * part_count, symbols, symbol_count, number, leaf, work,
+                                TT_LIST_WORK(trees) - less, tables, TT_TABLE_WORK(trees), counts, TT_COUNT_WORK(trees), told);
+    const uint8_t *byte = (const uint8_t *)(reply == 0 ? counts + TT_COUNT_WORK(trees) : work);
+    while (byte < (const uint8_t *)(work + sizeof work / sizeof *work)) {
+        if (*byte++ != NOISE) {
+            return UINT32_MAX;
+        }
+    }
+    return reply;
+}
+
+/* As replacing answers, and with a word too few 6 in the place of 0. */
+static bool previewed(uint32_t number, const uint32_t *leaf, uint32_t reply, const size_t *told) {
+    size_t before[3], none[3] = {0, 0, 0};
+    bool same = preview(number, leaf, 0, before) == reply && memcmp(before, told, sizeof before) == 0;
+    return same && preview(number, leaf, 1, before) == (reply == 0 ? 6 : reply) && memcmp(before, reply == 0 ? none : told, sizeof before) == 0;
+}
+
 static void token(void) {
     static uint32_t work[TT_LIST_WORK(TREES) + TT_TABLE_WORK(TREES) + TT_COUNT_WORK(TREES)];
     uint32_t number = stored_number(), leaf[13], *tables = work + TT_LIST_WORK(trees), *counts = tables + TT_TABLE_WORK(trees);
@@ -372,6 +396,7 @@ static void token(void) {
     if (stored_word()[0] == '!') {
         bool same = reply == 10 && told[0] == number && told[1] == 0 && told[2] == 0;
         held(same && memcmp(&fresh, &noise, sizeof fresh) == 0, "no leaf to exchange");
+        held(previewed(number, leaf, reply, told), "no size before exchanging");
         return;
     }
     bool done = reply == 0 && told[0] <= BYTES && told[1] <= PARTS && told[2] <= TREES;
@@ -380,6 +405,7 @@ static void token(void) {
         stored_word();
     }
     held(same, "leaf exchanged");
+    held(previewed(number, leaf, reply, told), "size before exchanging");
 }
 
 /* ---- buffers put in order */

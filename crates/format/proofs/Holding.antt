@@ -13,15 +13,16 @@ use Rattle.format.specs.Verdict.{Verdict, passed, refused, _andThen_, ru
 use Rattle.format.specs.Plain.{Listing, endOf, sub}
 use Rattle.format.specs.Nest.{stillOpen, innermost, nestFrom, rooted, nest}
 use Rattle.format.specs.Buffer.{wordShape}
-use Rattle.format.specs.Tables.{Mode, limits, indexedBelow}
-use Rattle.format.specs.WordList.{wordOf, treeList, rawFrom, wordFields, listCount, given, rowTwo, listRules}
-use Rattle.format.specs.Writer.{partIndex, symbolIndex, rawOf, raws, present, rowFive}
+use Rattle.format.specs.Tables.{Mode, limits, indexedBelow, ownTables}
+use Rattle.format.specs.WordList.{wordOf, treeList, rawFrom, wordFields, listCount, given, listSized, rowTwo, listRules}
+use Rattle.format.specs.Writer.{partIndex, symbolIndex, rawOf, raws, present, rowFive, listVerdict}
 use Rattle.format.specs.Width.{openAt, closeAt, treeSize}
 use Rattle.format.specs.Part.{partFrom, samePart, partAt, spanFrom, indexed}
 use Rattle.format.specs.Fields.{spanFits}
 use Rattle.format.specs.Builder.{holdingAll}
 use Rattle.format.proofs.Each.{and-right, both, refused-not}
 use Rattle.format.proofs.PartLaw.{from-same}
+use Rattle.format.proofs.WriterRefusal.{list-sound, rules-complete}
 
 module _ (l : List ℕ) where
   pub holding-length : length (holdingAll l) ≡ length l
@@ -178,3 +179,11 @@ passed-root l e =
 
     sum : (a k : ℕ) → 0 + 1 + a ≡ k → a ≡ k - 1
     sum a k e = omega arith
+
+-- a list that rows 1 to 5 pass: rows 1 to 4 are silent, and its root holds all others as it says
+pub lawful-holding : (parts symbols l : List ℕ) → listVerdict parts symbols l ≡ passed
+    → ((listSized l && ownTables parts symbols .sized) ≡ true) × (listRules l ≡ passed) × (holdingAll l ≡ l)
+lawful-holding parts symbols l ok =
+    let a = list-sound parts symbols l ok in
+    let r = rules-complete l (a .ruled) in
+    (a .sized, r, holding-same l (passed-root l r))

@@ -3,24 +3,20 @@ use Prim.Native.Nat.{ℕ}
 use mathlib.Core.Bool.{Bool, true, false}
 use mathlib.Core.Path.{_≡_, refl, sym, ap, _∙_}
 use mathlib.Core.List.{List}
-use mathlib.Core.Logic.{_⊎_, inl, inr, _↔_}
+use mathlib.Core.Logic.{_↔_}
 use native.Mathlib.Omega.{arith}
 use borrow.Author.Tests.{le-leb}
 use lib.ListN.{length}
 use Rattle.format.specs.Verdict.{Verdict, passed, refused, _andThen_, rule}
-use Rattle.format.specs.Check.{listing}
-use Rattle.format.specs.Buffer.{wordShape, ownReader}
 use Rattle.format.specs.MakeTables.{partTable, symbolTable}
 use Rattle.format.specs.Replace.{freshBytes, exchanged, outFits, reportOf, replaceVerdict, replaceWork, replaceOut, replaceReport}
 use Rattle.format.specs.Preview.{previewReport}
 use Rattle.format.specs.Unpack.{workFits}
 use Rattle.format.proofs.Each.{true-false}
-use Rattle.format.proofs.CheckRefusal.{Refused, size, tree, left, root, nesting, count}
-use Rattle.format.proofs.NestLaw.{Why, passes-other, passes-list, deep}
-use Rattle.format.proofs.TreeRefusal.{own-numbers, own-refusal}
+use Rattle.format.proofs.TreeRefusal.{own-no-six}
 use Rattle.format.proofs.Exchange.{ReplaceRow, ofCheck, noLeaf, badLeaf, shortWork, shortOut, refused-row, row-refused}
 
--- of the work words it matters whether they are long enough
+-- of the work words it matters only whether they are long enough
 pub work-same : (b : List ℕ) (k : ℕ) (parts symbols : List ℕ) (n : ℕ) (w : List ℕ) (a c d a₂ c₂ d₂ : ℕ) → workFits k a c d ≡ workFits k a₂ c₂ d₂
     → replaceWork b k parts symbols n w a c d ≡ replaceWork b k parts symbols n w a₂ c₂ d₂
 unfolding replaceWork
@@ -34,7 +30,7 @@ module _ (b : List ℕ) (k : ℕ) (parts symbols : List ℕ) (n : ℕ) (w : List
   worked = replaceWork b k parts symbols n w a c d
 
   module _ (x y z : List ℕ) (room : replaceWork b k parts symbols n w a c d ≡ passed → outFits (exchanged b k parts symbols n w) x y z ≡ true) where
-    -- outputs that hold the new list are not asked for
+    -- outputs with room refuse nothing
     pub ample-out : replaceOut b k parts symbols n w a c d x y z ≡ replaceWork b k parts symbols n w a c d
     unfolding replaceOut
     ample-out = go worked refl
@@ -47,7 +43,7 @@ module _ (b : List ℕ) (k : ℕ) (parts symbols : List ℕ) (n : ℕ) (w : List
     pub preview-same : replaceReport b k parts symbols n w a c d x y z ≡ previewReport b k parts symbols n w a c d
     preview-same = ap (reportOf new) ample-out
 
-  -- the new list itself as outputs: that is room enough
+  -- the new buffer and tables themselves as outputs: that is room enough
   itself-fits : outFits new (freshBytes new) (partTable new) (symbolTable new) ≡ true
   itself-fits =
       simp (le-leb (length (freshBytes new)) (length (freshBytes new)) (omega arith), le-leb (length (partTable new)) (length (partTable new)) (omega arith), le-leb (length (symbolTable new)) (length (symbolTable new)) (omega arith))
@@ -66,31 +62,12 @@ module _ (b : List ℕ) (k : ℕ) (parts symbols : List ℕ) (n : ℕ) (w : List
     λ h. sym as-work ∙ row-refused b k parts symbols n w a c d (freshBytes new) (partTable new) (symbolTable new) r m h,
   )
 
-  -- the check's own numbers are 1, 2, 3, 4, 7, 8 and 9
-  check-six : (r m : ℕ) → Refused wordShape (ownReader b k parts symbols) r m → r ≡ 6 → ⊥
-  check-six r m (size s) e = absurd (omega arith)
-  check-six r m (tree q t s l f g) e = go (own-numbers b k parts symbols t q f)
-    where
-      go : (q ≡ 7) ⊎ ((q ≡ 2) ⊎ (q ≡ 8)) → ⊥
-      go (inl i) = absurd (omega arith)
-      go (inr (inl i)) = absurd (omega arith)
-      go (inr (inr i)) = absurd (omega arith)
-  check-six r m (left s f) e = absurd (omega arith)
-  check-six r m (root s f g) e = absurd (omega arith)
-  check-six r m (nesting q t s f) e = go q t (f .why) e
-    where
-      go : (i j : ℕ) → Why wordShape (listing wordShape (ownReader b k parts symbols)) i j → i ≡ 6 → ⊥
-      go i j (passes-other o x h f g u v) e = absurd (omega arith)
-      go i j (passes-list x f h) e = absurd (omega arith)
-      go i j (deep x f g h) e = absurd (omega arith)
-  check-six r m (count t s f g h i j) e = absurd (omega arith)
-
   -- "6 can then come only from a short work run"
   pub six-short : (m : ℕ) → replaceWork b k parts symbols n w a c d ≡ refused 6 m → (m ≡ 0) × (replaceVerdict b k parts symbols n w ≡ passed) × (workFits k a c d ≡ false)
   six-short m e = go 6 m (preview-refused 6 m .0 e) refl
     where
       go : (r m : ℕ) → PreviewRow r m → r ≡ 6 → (m ≡ 0) × (replaceVerdict b k parts symbols n w ≡ passed) × (workFits k a c d ≡ false)
-      go r m (ofCheck s t f) i = absurd (check-six s t (own-refusal b k parts symbols s t f) i)
+      go r m (ofCheck s t f) i = absurd (own-no-six b k parts symbols s t f i)
       go r m (noLeaf p f) i = absurd (omega arith)
       go r m (badLeaf p q f) i = absurd (omega arith)
       go r m (shortWork p f) i = (refl, p, f)

@@ -11,12 +11,13 @@ use lib.ListN.{length}
 use Rattle.format.specs.Test.{if_then_else_}
 use Rattle.format.specs.Verdict.{refused}
 use Rattle.format.specs.Reader.{Shape, Reader, Reply, got, bad}
-use Rattle.format.specs.Check.{placeOf, reading}
+use Rattle.format.specs.Check.{placeOf, reading, listing}
 use Rattle.format.specs.Tree.{Raw, treeAt}
 use Rattle.format.specs.Fields.{fields}
 use Rattle.format.specs.Tables.{TableRules, Limits, indexedBelow, indexedRoot, rowEight, limits, ownLimits, countRules, rules, ownMode, ownTables}
 use Rattle.format.specs.Buffer.{formed, judge, readerAs, wordShape, rawShape, ownReader, bufferCheck, sizeReader}
-use Rattle.format.proofs.CheckRefusal.{Refused, check-refusal, refused-check}
+use Rattle.format.proofs.CheckRefusal.{Refused, size, tree, left, root, nesting, count, check-refusal, refused-check}
+use Rattle.format.proofs.NestLaw.{Why, passes-other, passes-list, deep}
 use Rattle.format.proofs.RootForm.{Form, root-form, form-root}
 use Rattle.format.proofs.Unread.{Cut, Early, unread, cut-seven, early-two}
 
@@ -142,6 +143,28 @@ module _ (b : List ℕ) (k : ℕ) (parts symbols : List ℕ) where
 
   pub refusal-own : (r n : ℕ) → Refused wordShape R r n → bufferCheck b k parts symbols ≡ refused r n
   refusal-own = refused-check wordShape R
+
+  -- its numbers are 1, 2, 3, 4, 7, 8 and 9
+  pub own-no-six : (r n : ℕ) → bufferCheck b k parts symbols ≡ refused r n → r ≡ 6 → ⊥
+  own-no-six r n e = go r n (own-refusal r n e)
+    where
+      reads : (q : ℕ) → (q ≡ 7) ⊎ ((q ≡ 2) ⊎ (q ≡ 8)) → q ≡ 6 → ⊥
+      reads q (inl i) f = absurd (omega arith)
+      reads q (inr (inl i)) f = absurd (omega arith)
+      reads q (inr (inr i)) f = absurd (omega arith)
+
+      nests : (q m : ℕ) → Why wordShape (listing wordShape R) q m → q ≡ 6 → ⊥
+      nests q m (passes-other o x h f g u v) i = absurd (omega arith)
+      nests q m (passes-list x f h) i = absurd (omega arith)
+      nests q m (deep x f g h) i = absurd (omega arith)
+
+      go : (q m : ℕ) → Refused wordShape R q m → q ≡ 6 → ⊥
+      go q m (size s) i = absurd (omega arith)
+      go q m (tree s t z l f g) i = reads s (own-numbers t s f) i
+      go q m (left s f) i = absurd (omega arith)
+      go q m (root s f g) i = absurd (omega arith)
+      go q m (nesting s t z f) i = nests s t (f .why) i
+      go q m (count t s f g h j o) i = absurd (omega arith)
 
 -- ---- the same where only the sizes of the tables are known
 

@@ -1,4 +1,4 @@
--- What tickets 1 and 3 of document 02 begin with: the list of an admitted buffer, and the work words that are lent for it.
+-- What tickets 1, 3 and 4 of document 02 begin with: the list of an admitted buffer, and the work words that are lent for it.
 use Prim.Native.Nat.{ℕ, _+_, _*_}
 use mathlib.Core.Bool.{Bool, _&&_}
 use mathlib.Core.Path.{_≡_}

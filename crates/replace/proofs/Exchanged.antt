@@ -30,7 +30,7 @@ use Rattle.replace.specs.declared.report.ReplaceReport.the-variants as a
 replaced-refused : {A : Type 0} (i p s : ℕ) (x : Refusal) → answers.Replaced i p s ≡ answers.Refused x → A
 replaced-refused i p s x e = let z : _≡_ {A = ℕ} 0 1 = cc in absurd (omega arith)
 
-same-sizes : (i p s j q t : ℕ) → answers.Replaced i p s ≡ answers.Replaced j q t → (i ≡ j) × (p ≡ q) × (s ≡ t)
+pub same-sizes : (i p s j q t : ℕ) → answers.Replaced i p s ≡ answers.Replaced j q t → (i ≡ j) × (p ≡ q) × (s ≡ t)
 same-sizes i p s j q t e = (cc, cc, cc)
 
 same-refusal : (x y : Refusal) → answers.Refused x ≡ answers.Refused y → x ≡ y

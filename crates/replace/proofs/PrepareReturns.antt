@@ -24,7 +24,8 @@ use Rattle.tree.specs.declared.refusal.Verdict.{Verdict as Answer}
 use Rattle.tree.specs.declared.refusal.Verdict.the-variants.{Passed, Refused}
 use Rattle.tree.proofs.Answers.{answer-passed, answer-refused}
 use Rattle.replace.specs.Fresh.{Held, Tabled}
-use Rattle.replace.specs.Prepared.{ListPut, NewMade, preparedOf, worked, Left, PreparedIn}
+use Rattle.replace.specs.Left.{worked, Left}
+use Rattle.replace.specs.Prepared.{ListPut, NewMade, preparedOf, PreparedIn}
 use Rattle.replace.specs.declared.fresh.Counted.{Counted}
 use Rattle.replace.specs.declared.prepare.Prepared.{Prepared}
 use Rattle.replace.specs.declared.prepare.Prepared.the-variants as answers

@@ -11,20 +11,21 @@ use Rattle.format.specs.Verdict.{passed}
 use Rattle.format.specs.Word.{put}
 use Rattle.format.specs.Width.{treeSize, partSize}
 use Rattle.format.specs.Write.{workWords}
-use Rattle.format.specs.Tables.{ownTables}
+use Rattle.format.specs.Tables.{ownMode, ownTables}
 use Rattle.format.specs.WordList.{listCount, listSized, listRules, listRows}
-use Rattle.format.specs.Writer.{listVerdict, trees, workVerdict}
+use Rattle.format.specs.Writer.{listVerdict, trees, packed, workVerdict}
 use Rattle.format.specs.Builder.{holdingAll}
 use Rattle.format.specs.MakeTables.{partTable, symbolTable, partTotal}
 use Rattle.format.specs.Replace.{freshBytes}
 use Rattle.format.specs.Unpack.{countWork}
 use Rattle.format.proofs.Kept.{kept}
 use Rattle.format.proofs.Put.{put-at, put-behind}
-use Rattle.format.proofs.WriteSize.{work-size, work-first}
-use Rattle.format.proofs.WriterRefusal.{Writes, list-sound, rules-complete}
-use Rattle.format.proofs.Holding.{holding-same, passed-root}
+use Rattle.format.proofs.WriteSize.{work-size}
+use Rattle.format.proofs.Holding.{lawful-holding}
 use Rattle.tree.specs.declared.refusal.Refusal.{Refusal}
 use Rattle.tree.specs.declared.refusal.Report.{Report}
+use Rattle.passes.specs.Tail.{restOf}
+use Rattle.passes.proofs.TailLaw.{work-at}
 use Rattle.writer.specs.Written.{Written}
 use Rattle.replace.specs.Report.{replaceAnswer}
 use Rattle.replace.specs.Fresh.{symbolsAt, tablesOf, Held}
@@ -42,21 +43,14 @@ use Rattle.replace.proofs.PrepareReturns.{why-refused, work-passed, the
 -- ---- the sizes
 
 module _ (l p s d : List ℕ) (ok : listVerdict p s l ≡ passed) (g : countWork (listCount l) ≤ length d) where
-  sound : Writes p s l
-  sound = list-sound p s l ok
-
-  ruled : listRules l ≡ passed
-  ruled = rules-complete l (sound .ruled)
-
   pub sized : (listSized l && ownTables p s .sized) ≡ true
-  sized = sound .sized
+  sized = lawful-holding p s l ok .0
 
-  -- the root holds all others, as it says
   as-it-is : holdingAll l ≡ l
-  as-it-is = holding-same l (passed-root l ruled)
+  as-it-is = lawful-holding p s l ok .2
 
   pub held-ruled : listRules (holdingAll l) ≡ passed
-  held-ruled = ap listRules as-it-is ∙ ruled
+  held-ruled = ap listRules as-it-is ∙ lawful-holding p s l ok .1
 
   module _ (x : List ℕ) (r : Report) (d′ x′ : List ℕ) (W : Written p s (holdingAll l) d x r d′ x′) where
     works : workVerdict p s l d x ≡ passed
@@ -65,14 +59,19 @@ module _ (l p s d : List ℕ) (ok : listVerdict p s l ≡ passed) (g : countWork
     filled : d′ ≡ put d 0 (workWords (trees p s l))
     filled = let v = works in subst (λ (m : List ℕ). Written p s m d x r d′ x′) as-it-is W .works ∙ rw v
 
-    pub first-inside : length d′ ≡ length d → 0 < length d′
-    first-inside q = omega arith
+    pub count-inside : length d′ ≡ length d → (i : ℕ) → i < 6 → i < length d′
+    count-inside q i h = omega arith
+
+    -- the first size is that of all trees
+    first-is : getD (workWords (trees p s l)) 0 0 ≡ length (packed p s l)
+    unfolding restOf
+    first-is = work-at (ownMode p s) l 0
 
     pub bytes-found : (t : ℕ) → t ≡ 0 → (i : ℕ) → i ≡ getD d′ 0 0 → (z : Sizes) → z ≡ record { bytes = i; parts = 0; symbols = 0 } → SizesFound l p s t z d d′
     bytes-found t e i f z q =
         let m = work-size p s l in
         record {
-          bytes = ap (λ (o : Sizes). o .bytes) q ∙ f ∙ ap (λ (v : List ℕ). getD v 0 0) filled ∙ put-at d 0 (workWords (trees p s l)) (omega arith) 0 (omega arith) ∙ work-first p s l;
+          bytes = ap (λ (o : Sizes). o .bytes) q ∙ f ∙ ap (λ (v : List ℕ). getD v 0 0) filled ∙ put-at d 0 (workWords (trees p s l)) (omega arith) 0 (omega arith) ∙ first-is;
           parts = ap (λ (o : Sizes). o .parts) q ∙ rw e;
           symbols = ap (λ (o : Sizes). o .symbols) q ∙ rw e;
           countsBehind = ap (drop (countWork (listCount l))) filled ∙ put-behind d 0 (workWords (trees p s l)) (omega arith) (countWork (listCount l)) (omega arith);
@@ -103,7 +102,7 @@ module _ (l p s d : List ℕ) (ok : listVerdict p s l ≡ passed) (g : countWork
           countsBehind = F .countsBehind;
         }
 
-pub ruleset size-cases = (sized, held-ruled, first-inside, bytes-found, fewer-turns, parts-found, symbols-found, kept)
+pub ruleset size-cases = (sized, held-ruled, count-inside, fewer-turns, kept)
 
 -- ---- of tables in work words
 

@@ -16,12 +16,13 @@ use Rattle.format.proofs.Exchange.{out-room}
 use Rattle.format.proofs.PreviewLaw.{work-same, preview-same, PreviewRow, preview-refused, six-short}
 use Rattle.tree.specs.declared.refusal.Refusal.{Refusal}
 use Rattle.replace.specs.Report.{replaceAnswer}
+use Rattle.replace.specs.Left.{worked}
 use Rattle.replace.specs.Replaced.{Replaced}
 use Rattle.replace.specs.Exchanged.{Exchanged}
 use Rattle.replace.specs.Previewed.{Previewed}
 use Rattle.replace.specs.declared.report.ReplaceReport.{ReplaceReport}
 use Rattle.replace.specs.declared.report.ReplaceReport.the-variants as answers
-use Rattle.replace.proofs.Exchanged.{answer-replaced, answer-refused, replaced-is}
+use Rattle.replace.proofs.Exchanged.{same-sizes, answer-replaced, answer-refused, replaced-is}
 
 -- its answer r, and what the work words hold then
 module _ (b : List ℕ) (k : ℕ) (parts symbols : List ℕ) (n : ℕ) (w a c d : List ℕ) (r : ReplaceReport) (a′ c′ d′ : List ℕ) (P : Previewed b k parts symbols n w a c d r a′ c′ d′) where
@@ -29,7 +30,7 @@ module _ (b : List ℕ) (k : ℕ) (parts symbols : List ℕ) (n : ℕ) (w a c d 
   new = exchanged b k parts symbols n w
 
   abbrev verdict : Verdict
-  verdict = replaceWork b k parts symbols n w (length a) (length c) (length d)
+  verdict = worked b k parts symbols n w a c d
 
   -- what is told are the sizes of the new buffer and of the new tables, in entries
   pub sizes-told : (i p s : ℕ) → r ≡ answers.Replaced i p s
@@ -93,9 +94,10 @@ module _ (b : List ℕ) (k : ℕ) (parts symbols : List ℕ) (n : ℕ) (w a c d 
       where
         enough : (j q t : ℕ) → answers.Replaced i p s ≡ answers.Replaced j q t → (j ≤ length x) × (partSize * q ≤ length y) × (t ≤ length z)
         enough j q t g =
-            let α : i ≡ j = cc in
-            let β : p ≡ q = cc in
-            let γ : s ≡ t = cc in
+            let e = same-sizes i p s j q t g in
+            let α = e .0 in
+            let β = e .1 in
+            let γ = e .2 in
             (omega arith, omega arith, omega arith)
 
     -- … and what replacing has answered, whatever room it had, the preview answers

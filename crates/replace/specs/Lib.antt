@@ -1,4 +1,5 @@
 pub mod Report
+pub mod Left
 pub mod Fresh
 pub mod Prepared
 pub mod Replaced

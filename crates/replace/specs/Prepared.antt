@@ -6,8 +6,9 @@ use lib.ListN.{length, take, drop}
 use Rattle.format.specs.Verdict.{Verdict, passed, refused}
 use Rattle.format.specs.Width.{treeSize}
 use Rattle.format.specs.MakeTables.{partTotal, symbolTable}
-use Rattle.format.specs.Replace.{exchanged, replaceWork}
-use Rattle.format.specs.Unpack.{listWork, tableWork, countWork, WorkLeft}
+use Rattle.format.specs.Replace.{exchanged}
+use Rattle.format.specs.Unpack.{listWork}
+use Rattle.replace.specs.Left.{worked, Left}
 use Rattle.replace.specs.Fresh.{Tabled}
 use Rattle.replace.specs.declared.fresh.Counted.{Counted}
 use Rattle.replace.specs.declared.prepare.Prepared.{Prepared}
@@ -25,21 +26,12 @@ preparedOf l (refused r m) = answers.Refused (record { number = r; tree = m })
 
 -- of a buffer b of k trees with its tables, a tree number n and the words w of a leaf; the work words a, c, d
 module _ (b : List ℕ) (k : ℕ) (parts symbols : List ℕ) (n : ℕ) (w : List ℕ) (a c d : List ℕ) where
-  -- … and so do its tables
+  -- the new list and its tables stand in the work words
   pub record NewMade (r : Counted) (a′ c′ d′ : List ℕ) : Type 0 where
     pub listed : ListPut b k parts symbols n w a a′
     pub tabled : Tabled (exchanged b k parts symbols n w) r c c′ d d′
 
-  abbrev pub worked : Verdict
-  worked = replaceWork b k parts symbols n w (length a) (length c) (length d)
-
-  -- what the work words hold then
-  pub record Left (a′ c′ d′ : List ℕ) : Type 0 where
-    pub listLeft : WorkLeft worked (listWork k) a a′
-    pub tablesLeft : WorkLeft worked (tableWork k) c c′
-    pub countsLeft : WorkLeft worked (countWork k) d d′
-
   pub record PreparedIn (r : Prepared) (a′ c′ d′ : List ℕ) : Type 0 where
-    pub answer : r ≡ preparedOf (exchanged b k parts symbols n w) worked
-    pub left : Left a′ c′ d′
+    pub answer : r ≡ preparedOf (exchanged b k parts symbols n w) (worked b k parts symbols n w a c d)
+    pub left : Left b k parts symbols n w a c d a′ c′ d′
     pub made : (t : Counted) → r ≡ answers.Made t → NewMade t a′ c′ d′

@@ -13,7 +13,7 @@ use Rattle.format.specs.Replace.{freshBytes}
 use Rattle.format.specs.Preview.{previewReport}
 use Rattle.format.specs.Unpack.{countWork}
 use Rattle.replace.specs.Report.{replaceAnswer}
-use Rattle.replace.specs.Prepared.{Left}
+use Rattle.replace.specs.Left.{Left}
 use Rattle.replace.specs.declared.preview.Sizes.{Sizes}
 use Rattle.replace.specs.declared.report.ReplaceReport.{ReplaceReport}
 

@@ -5,7 +5,7 @@ use mathlib.Core.List.{List}
 use lib.ListN.{length}
 use Rattle.format.specs.Replace.{replaceReport, bytesOut, partsOut, symbolsOut}
 use Rattle.replace.specs.Report.{replaceAnswer}
-use Rattle.replace.specs.Prepared.{Left}
+use Rattle.replace.specs.Left.{Left}
 use Rattle.replace.specs.declared.report.ReplaceReport.{ReplaceReport}
 
 -- of a buffer b of k trees with its tables, a tree number n and the words w of a leaf; the work words a, c, d; the outputs x, y, z

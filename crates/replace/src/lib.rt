@@ -1,4 +1,4 @@
-// One leaf of a stored list exchanged: new bytes over new tables.
+// One leaf of a stored list exchanged: new bytes over new tables; and their sizes before.
 mod fresh;
 mod judge;
 mod prepare;

@@ -29,9 +29,10 @@ pub(crate) struct Sizes {
     pub(crate) symbols: usize,
 }
 
-// The bytes that the writer makes of a list over its tables, and behind them the entries of the first so many tables.
-// The writer is lent no room: then it fills the sizes, and the first is that of all trees. As `put_outputs` this calls
-// itself, so that the writer's arrays get a frame of their own.
+// How many bytes the writer makes of a list over its tables, then how many entries the first so many tables have. The
+// writer is lent no room: it fills the sizes all the same, and the first is that of all trees. As `put_outputs` this
+// calls itself, so that the writer's arrays get a frame of their own: were nothing left to count behind the call, the
+// compiler would make a loop of it.
 fn fresh_sizes(
     l: &[u32],
     parts: &[u32],

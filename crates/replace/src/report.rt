@@ -1,11 +1,11 @@
-// What `set_token` answers.
+// What `set_token` and its preview answer.
 use tree::refusal::Refusal;
 ghost use mathlib.Core.Path.{_≡_};
 ghost use Rattle.format.specs.Replace.{refusal};
 ghost use Rattle.replace.specs.Report.{replaceAnswer};
 
 pub enum ReplaceReport {
-    // How many bytes, parts, the root's two among them, and symbols were written.
+    // How many bytes, parts, the root's two among them, and symbols there are then.
     Replaced {
         bytes: usize,
         parts: usize,

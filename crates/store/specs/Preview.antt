@@ -4,7 +4,7 @@ use mathlib.Core.List.{List}
 use lib.ListN.{length}
 use Rattle.format.specs.Preview.{previewReport}
 use Rattle.replace.specs.Report.{replaceAnswer}
-use Rattle.replace.specs.Prepared.{Left}
+use Rattle.replace.specs.Left.{Left}
 use Rattle.store.specs.Told.{Told}
 
 -- as `preview` answers, and leaves the work words

@@ -21,8 +21,7 @@ use Rattle.format.proofs.Kept.{kept}
 use Rattle.format.proofs.Put.{put-behind}
 use Rattle.format.proofs.TableRuns.{run-take}
 use Rattle.format.proofs.WriteSize.{work-size}
-use Rattle.format.proofs.WriterRefusal.{Writes, list-sound, rules-complete}
-use Rattle.format.proofs.Holding.{holding-same, passed-root}
+use Rattle.format.proofs.Holding.{lawful-holding}
 use Rattle.format.proofs.ListOf.{list-length, list-count, admitted-lawful}
 use Rattle.tree.specs.Refusal.{verdictAnswer, reportAnswer}
 use Rattle.tree.specs.declared.refusal.Refusal.{Refusal}
@@ -47,12 +46,9 @@ module _ (b : List ℕ) (k : ℕ) (parts symbols : List ℕ) (ok : bufferCheck b
   abbrev old : List ℕ
   old = listOf b k parts symbols
 
-  -- no row of 1 to 5 is left
-  sound : Writes parts symbols old
-  sound = list-sound parts symbols old (admitted-lawful b k parts symbols ok)
-
-  ruled : listRules old ≡ passed
-  ruled = rules-complete old (sound .ruled)
+  -- no row of 1 to 5 is left, and the root holds all others as it says
+  lawful : ((listSized old && ownTables parts symbols .sized) ≡ true) × (listRules old ≡ passed) × (holdingAll old ≡ old)
+  lawful = lawful-holding parts symbols old (admitted-lawful b k parts symbols ok)
 
   pub list-room : treeSize * k ≤ length a
   list-room = omega arith
@@ -68,14 +64,13 @@ module _ (b : List ℕ) (k : ℕ) (parts symbols : List ℕ) (ok : bufferCheck b
         rw (s, e) (run-take a old)
 
     pub list-sized : (listSized (take (treeSize * p - 0) (drop 0 a₁)) && ownTables parts symbols .sized) ≡ true
-    list-sized = ap (λ (l : List ℕ). listSized l && ownTables parts symbols .sized) list-is ∙ sound .sized
+    list-sized = ap (λ (l : List ℕ). listSized l && ownTables parts symbols .sized) list-is ∙ lawful .0
 
-    -- the root holds all others, as it says
     as-it-is : holdingAll (take (treeSize * p - 0) (drop 0 a₁)) ≡ old
-    as-it-is = ap holdingAll list-is ∙ holding-same old (passed-root old ruled)
+    as-it-is = ap holdingAll list-is ∙ lawful .2
 
     pub list-ruled : listRules (holdingAll (take (treeSize * p - 0) (drop 0 a₁))) ≡ passed
-    list-ruled = ap listRules as-it-is ∙ ruled
+    list-ruled = ap listRules as-it-is ∙ lawful .1
 
     list-behind : drop (listWork k) a₁ ≡ drop (listWork k) a
     list-behind =

@@ -1,5 +1,5 @@
-/* Stored buffers of packed token trees: one leaf exchanged, and a buffer put in order. Link with libstore.a, which `rt staticlib store`
- * writes (x86-64). */
+/* Stored buffers of packed token trees: one leaf exchanged, the size before that, and a buffer put in order. Link with libstore.a, which
+ * `rt staticlib store` writes (x86-64). */
 #ifndef TT_STORE_H
 #define TT_STORE_H
 
@@ -24,7 +24,8 @@ extern "C" {
  * run may lie over one that is written. Nothing is kept between calls: threads may call it at once, on runs of their own.
  *
  * 0: out, out_parts and out_symbols begin with the new buffer and tables, behind which they are unchanged; told has how many bytes,
- * parts (three words each) and symbols these are. There are as many trees as before. What the work words hold is open.
+ * parts (three words each) and symbols these are. There are as many trees as before. What the work words hold is open up to the lengths
+ * above, behind which they are unchanged.
  *
  * Else the number of the refusal, and told has the tree that it names and two zeros; out, out_parts and out_symbols are unchanged:
  * - the check's, at its tree: 1, 2, 3, 4, 7, 8 or 9;
@@ -37,6 +38,22 @@ uint32_t tt_set_token(const uint8_t *b, size_t b_len, uint32_t trees, const uint
                       size_t list_len, uint32_t *tables, size_t tables_len, uint32_t *counts, size_t counts_len, uint8_t *out,
                       size_t out_len, uint32_t *out_parts, size_t out_parts_len, uint32_t *out_symbols, size_t out_symbols_len,
                       size_t told[3]);
+
+/* What tt_set_token would answer, with outputs that have room enough. Nothing is written but work words and told.
+ *
+ * Read: as by tt_set_token. No run may lie over one that is written. Nothing is kept between calls: threads may call it at once, on runs
+ * of their own.
+ *
+ * 0: told has how many bytes, parts (three words each) and symbols there would be. tt_set_token of the same buffer, tables, number and
+ * leaf, with work words that are long enough and outputs that hold as much, answers 0, tells the same and writes as much. What the work
+ * words hold is open up to the lengths above, behind which they are unchanged. How storage would change is the difference from b_len,
+ * parts_len / 3 and symbols_len.
+ *
+ * Else the number of the refusal that tt_set_token would give, and told has the tree that it names and two zeros: the check's, 10, 2; 6
+ * at 0 only for list, tables or counts shorter than above. Work words are unchanged. */
+uint32_t tt_preview(const uint8_t *b, size_t b_len, uint32_t trees, const uint32_t *parts, size_t parts_len, const uint32_t *symbols,
+                    size_t symbols_len, uint32_t number, const uint32_t leaf[13], uint32_t *list, size_t list_len, uint32_t *tables,
+                    size_t tables_len, uint32_t *counts, size_t counts_len, size_t told[3]);
 
 /* The list of the buffer b in the writer's bytes over the same tables: every span, symbol, literal and subtree in the form that the
  * writer takes, every index that of its entry's first place. Put in order again, these bytes stay. Two buffers over the same tables

@@ -1,9 +1,10 @@
-//! Stored bundles of packed token trees: one leaf exchanged, or all of it put in order, by the proved functions of the crate `store`.
+//! Stored bundles of packed token trees: one leaf exchanged, the size before that, or all of it put in order, by the proved functions of the
+//! crate `store`.
 //!
 //! A bundle is a part table, a symbol table and a buffer of trees (docs/FORMAT.md of the repository). [`Stored::set_token`] gives the buffer of
-//! the same list with one leaf exchanged, over tables made afresh: every other tree reads as before. [`Stored::tidy`] gives the buffer of the
-//! same list over the same tables in the bytes that the writer makes, whatever forms the old one has. The new buffer passes the check; all that
-//! is proved. The old one is not touched.
+//! the same list with one leaf exchanged, over tables made afresh: every other tree reads as before. [`Stored::preview`] gives the sizes that
+//! this would have, or its refusal. [`Stored::tidy`] gives the buffer of the same list over the same tables in the bytes that the writer makes,
+//! whatever forms the old one has. The new buffer passes the check; all that is proved. The old one is not touched.
 //!
 //! ```
 //! use store::{Ident, IdentIsRaw, Leaf, Span, Stored};
@@ -22,7 +23,10 @@
 //! // in its place the name with symbol 9
 //! let span = Span { file: 7, ast_id: 0, context: 0, start: 10, len: 1 };
 //! let name = Leaf::Ident(Ident { sym: 9, span, is_raw: IdentIsRaw::No });
+//! let sizes = stored.preview(1, name)?;
+//! assert_eq!((stored.sizes().symbols, sizes.symbols), (0, 1));
 //! let renamed = stored.set_token(1, name)?;
+//! assert_eq!(renamed.sizes(), sizes);
 //! assert_eq!(renamed.symbols(), [9]);
 //! assert_eq!(renamed.bytes()[33..], *b"\x42\0\x05\0\0");
 //!
@@ -72,6 +76,15 @@ impl fmt::Display for Refusal {
 
 impl Error for Refusal {}
 
+/// How much is stored.
+#[derive(Clone, Copy, Debug, PartialEq, Eq, Hash)]
+pub struct Sizes {
+    pub bytes: usize,
+    /// The root's two among them; each has three words.
+    pub parts: usize,
+    pub symbols: usize,
+}
+
 /// A buffer that the check passes, with its tables.
 #[derive(Clone, Debug, PartialEq, Eq)]
 pub struct Stored {
@@ -115,6 +128,10 @@ impl Stored {
         self.trees
     }
 
+    pub fn sizes(&self) -> Sizes {
+        Sizes { bytes: self.bytes.len(), parts: self.parts.len(), symbols: self.symbols.len() }
+    }
+
     /// This list with another leaf as tree `number`, the root being 0. Refused with 10 at a number that is no leaf's, with 2 at a leaf with a
     /// field out of range.
     ///
@@ -125,6 +142,14 @@ impl Stored {
         let (mut bytes, mut parts, mut symbols) = (vec![0; 33 * trees], vec![[0; 3]; 2 * trees + 2], vec![0; trees]);
         let told = raw::set_token(self, number, &leaf.words(), split(&mut work), &mut bytes, parts.as_flattened_mut(), &mut symbols)?;
         Ok(Stored { bytes: bytes[..told[0]].into(), parts: parts[..told[1]].into(), symbols: symbols[..told[2]].into(), trees: self.trees })
+    }
+
+    /// The sizes that [`set_token`](Stored::set_token) would give, or its refusal, with nothing made but work words: 128 bytes a tree for the
+    /// time of the call.
+    pub fn preview(&self, number: u32, leaf: Leaf) -> Result<Sizes, Refusal> {
+        let mut work = work_words(self.trees as usize);
+        let [bytes, parts, symbols] = raw::preview(self, number, &leaf.words(), split(&mut work))?;
+        Ok(Sizes { bytes, parts, symbols })
     }
 
     /// This list over these tables in the writer's bytes: spans, symbols, literals and subtrees in the forms that the writer takes, each index

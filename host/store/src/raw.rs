@@ -17,6 +17,16 @@ mod foreign {
             out_symbols: *mut u32, out_symbols_len: usize,
             told: *mut [usize; 3],
         ) -> u32;
+        pub fn tt_preview(
+            b: *const u8, b_len: usize, trees: u32,
+            parts: *const u32, parts_len: usize,
+            symbols: *const u32, symbols_len: usize,
+            number: u32, leaf: *const [u32; 13],
+            list: *mut u32, list_len: usize,
+            tables: *mut u32, tables_len: usize,
+            counts: *mut u32, counts_len: usize,
+            told: *mut [usize; 3],
+        ) -> u32;
         pub fn tt_tidy(
             b: *const u8, b_len: usize, trees: u32,
             parts: *const u32, parts_len: usize,
@@ -60,6 +70,26 @@ pub fn set_token(
             bytes.as_mut_ptr(), bytes.len(),
             parts.as_mut_ptr(), parts.len(),
             symbols.as_mut_ptr(), symbols.len(),
+            &mut told,
+        )
+    };
+    answer(number, told)
+}
+
+/// How many bytes, parts and symbols `set_token` would write. Work words as there.
+pub fn preview(from: &Stored, number: u32, leaf: &[u32; 13], work: [&mut [u32]; 3]) -> Result<[usize; 3], Refusal> {
+    let [list, tables, counts] = work;
+    let (parts, mut told) = (from.parts.as_flattened(), [0; 3]);
+    // Safe: as above.
+    let number = unsafe {
+        foreign::tt_preview(
+            from.bytes.as_ptr(), from.bytes.len(), from.trees,
+            parts.as_ptr(), parts.len(),
+            from.symbols.as_ptr(), from.symbols.len(),
+            number, leaf,
+            list.as_mut_ptr(), list.len(),
+            tables.as_mut_ptr(), tables.len(),
+            counts.as_mut_ptr(), counts.len(),
             &mut told,
         )
     };

@@ -1,7 +1,7 @@
 //! The example, the lister's stored cases, and small bundles made here.
 use std::fs;
 use std::path::Path;
-use store::{Ident, IdentIsRaw, Leaf, LitKind, Literal, Punct, Refusal, Spacing, Span, Stored};
+use store::{Ident, IdentIsRaw, Leaf, LitKind, Literal, Punct, Refusal, Sizes, Spacing, Span, Stored};
 
 mod lister_cases;
 
@@ -36,6 +36,13 @@ fn refused(refusal: Refusal) -> (u32, u32) {
     (refusal.number(), refusal.tree())
 }
 
+/// Exchanged, and the sizes or the refusal are those that were told before.
+fn set_token(stored: &Stored, number: u32, leaf: Leaf) -> Result<Stored, Refusal> {
+    let (sizes, after) = (stored.preview(number, leaf), stored.set_token(number, leaf));
+    assert_eq!(sizes, after.as_ref().map(Stored::sizes).map_err(|refusal| *refusal), "tree {number} becomes {leaf:?}");
+    after
+}
+
 #[test]
 fn the_tariff_there_and_back() {
     assert_eq!(tariff().to_bundle(), example("tariff.bundle"));
@@ -57,7 +64,7 @@ fn every_place_of_the_tariff() {
     let leaves = [ident(101), ident(u32::MAX), punct('+'.into()), punct(0x10_FFFF), literal(LitKind::Str, 0), literal(LitKind::CStrRaw(255), 255)];
     for leaf in leaves {
         for (number, sort) in (0..).zip(TARIFF) {
-            let after = tariff().set_token(number, leaf);
+            let after = set_token(&tariff(), number, leaf);
             if sort == "subtree" {
                 assert_eq!(after.map_err(refused), Err((10, number)));
                 continue;
@@ -70,9 +77,28 @@ fn every_place_of_the_tariff() {
             assert_eq!(after.set_token(number, leaf), Ok(after));
         }
         for number in [12, 13, 1 << 20, u32::MAX] {
-            assert_eq!(tariff().set_token(number, leaf).map_err(refused), Err((10, number)));
+            assert_eq!(set_token(&tariff(), number, leaf).map_err(refused), Err((10, number)));
         }
     }
+}
+
+/// More and fewer bytes, parts and symbols than before.
+#[test]
+fn sizes_before_replacing() {
+    let loose = Stored::from_bundle(&example("loose.bundle")).unwrap();
+    assert_eq!((tariff().sizes(), loose.sizes().bytes), (Sizes { bytes: 100, parts: 4, symbols: 5 }, 188));
+    assert_eq!(loose.preview(DEPOSIT, ident(104)), Ok(tariff().sizes()));
+    // a symbol that is there already, one that is not, in a part that is not
+    assert_eq!(set_token(&tariff(), DEPOSIT, ident(101)).unwrap().sizes(), Sizes { bytes: 100, parts: 4, symbols: 4 });
+    let elsewhere = Leaf::Ident(Ident { sym: 204, span: Span { file: 9, ..SPAN }, is_raw: IdentIsRaw::No });
+    assert_eq!(set_token(&tariff(), DEPOSIT, elsewhere).unwrap().sizes(), Sizes { bytes: 100, parts: 5, symbols: 5 });
+    // an ident in a punct's place; the last use of a part
+    assert_eq!(set_token(&tariff(), 5, ident(204)).unwrap().sizes(), Sizes { bytes: 100, parts: 4, symbols: 6 });
+    let renamed = set_token(&tariff(), DEPOSIT, elsewhere).unwrap();
+    assert_eq!(set_token(&renamed, DEPOSIT, ident(104)).unwrap().sizes(), tariff().sizes());
+    // a start of eighteen bits takes four bytes more
+    let far = Leaf::Ident(Ident { sym: 204, span: Span { start: 1 << 17, ..SPAN }, is_raw: IdentIsRaw::No });
+    assert_eq!(set_token(&tariff(), DEPOSIT, far).unwrap().sizes(), Sizes { bytes: 104, parts: 4, symbols: 5 });
 }
 
 #[test]
@@ -87,9 +113,9 @@ fn a_bad_leaf_is_2_where_a_leaf_stands() {
         Leaf::Ident(Ident { sym: 1, span: long, is_raw: IdentIsRaw::No }),
     ];
     for leaf in bad {
-        assert_eq!(tariff().set_token(DEPOSIT, leaf).map_err(refused), Err((2, DEPOSIT)), "{leaf:?}");
-        assert_eq!(tariff().set_token(0, leaf).map_err(refused), Err((10, 0)), "{leaf:?}");
-        assert_eq!(tariff().set_token(12, leaf).map_err(refused), Err((10, 12)), "{leaf:?}");
+        assert_eq!(set_token(&tariff(), DEPOSIT, leaf).map_err(refused), Err((2, DEPOSIT)), "{leaf:?}");
+        assert_eq!(set_token(&tariff(), 0, leaf).map_err(refused), Err((10, 0)), "{leaf:?}");
+        assert_eq!(set_token(&tariff(), 12, leaf).map_err(refused), Err((10, 12)), "{leaf:?}");
     }
 }
 
@@ -122,7 +148,7 @@ fn tidied(stored: &Stored) -> Stored {
     assert_eq!(Stored::from_bundle(&tidy.to_bundle()).as_ref(), Ok(&tidy));
     // with one leaf exchanged, over tables made afresh, they are one
     for number in 1..stored.trees().min(20) {
-        assert_eq!(tidy.set_token(number, ident(9)), stored.set_token(number, ident(9)));
+        assert_eq!(set_token(&tidy, number, ident(9)), set_token(stored, number, ident(9)));
     }
     assert_eq!(tidy.tidy(), tidy);
     tidy
@@ -223,14 +249,14 @@ fn the_listers_cases() {
 
 /// On several threads at once.
 #[test]
-fn every_thread_may_exchange_and_tidy() {
+fn every_thread_may_preview_exchange_and_tidy() {
     let (stored, due) = (tariff(), tariff().set_token(DEPOSIT, ident(204)));
     let loose = Stored::from_bundle(&example("loose.bundle")).unwrap();
     std::thread::scope(|s| {
         for _ in 0..4 {
             s.spawn(|| {
                 for _ in 0..200 {
-                    assert_eq!(stored.set_token(DEPOSIT, ident(204)), due);
+                    assert_eq!(set_token(&stored, DEPOSIT, ident(204)), due);
                     assert_eq!(loose.tidy(), stored);
                 }
             });

@@ -3,6 +3,7 @@ use std::fs::{self, Permissions};
 use std::os::unix::fs::{PermissionsExt, symlink};
 use std::path::{Path, PathBuf};
 use std::process::Command;
+use store::Stored;
 
 mod lister_cases;
 
@@ -38,8 +39,23 @@ fn tidy(from: &Path, to: &Path) -> (Option<i32>, String, String) {
 fn the_tariffs_deposit_renamed() {
     let tariff = example("tariff.bundle");
     let (status, bundle, said) = rename(&[tariff.to_str().unwrap(), "8", "204"]);
-    assert_eq!((status, said.as_str()), (Some(0), ""));
+    assert_eq!((status, said.as_str()), (Some(0), "bytes 100 to 100, parts 4 to 4, symbols 5 to 5\n"));
     assert_eq!(bundle, fs::read(example("renamed.bundle")).unwrap());
+}
+
+/// What is said before is what the new bundle then has, also where that is fewer bytes, or a symbol less.
+#[test]
+fn the_change_told_before() {
+    for (name, symbol, change) in [
+        ("loose.bundle", "204", "bytes 188 to 100, parts 4 to 4, symbols 5 to 5\n"),
+        ("tariff.bundle", "101", "bytes 100 to 100, parts 4 to 4, symbols 5 to 4\n"),
+    ] {
+        let (status, bundle, said) = rename(&[example(name).to_str().unwrap(), "8", symbol]);
+        assert_eq!((status, said.as_str()), (Some(0), change));
+        let sizes = Stored::from_bundle(&bundle).unwrap().sizes();
+        let told = format!(" to {}, parts 4 to {}, symbols 5 to {}\n", sizes.bytes, sizes.parts, sizes.symbols);
+        assert!(said.ends_with(&told), "{said}");
+    }
 }
 
 #[test]
@@ -48,7 +64,8 @@ fn what_is_no_ident_stays() {
     for (tree, why) in [("0", "tree 0 is no ident"), ("4", "tree 4 is no ident"), ("12", "tree 12 is no ident"), ("4294967295", "is no ident")] {
         let (status, bundle, said) = rename(&[tariff.to_str().unwrap(), tree, "204"]);
         assert_eq!((status, bundle.len()), (Some(1), 0));
-        assert!(said.contains(why), "{said}");
+        // and no change is told
+        assert!(said.starts_with("rename: ") && said.contains(why), "{said}");
     }
 }
 
@@ -67,6 +84,14 @@ fn what_is_said_of_files_and_words() {
     for words in [&["a", "b", "c"][..], &["a", "-1", "2"], &["a", "1", "4294967296"], &["a", "1"], &[]] {
         assert_eq!(rename(words).0, Some(2), "{words:?}");
     }
+}
+
+/// Where the change cannot be told, the bundle is written all the same.
+#[test]
+fn nobody_to_be_told() {
+    let (tariff, program) = (example("tariff.bundle"), env!("CARGO_BIN_EXE_rename"));
+    let (status, bundle, _) = run("sh", &["-c", "exec \"$0\" \"$1\" 8 204 2>/dev/full", program, tariff.to_str().unwrap()]);
+    assert_eq!((status, bundle), (Some(0), fs::read(example("renamed.bundle")).unwrap()));
 }
 
 #[test]
@@ -193,6 +218,11 @@ fn from_c(name: &str) -> String {
 #[test]
 fn a_leaf_exchanged_from_c() {
     assert_eq!(from_c("exchange"), "0: 38 3 1\n10: 0 0 0\n10: 2 0 0\n2: 1 0 0\n6: 0 0 0\n6: 0 0 0\n7: 1 0 0\n");
+}
+
+#[test]
+fn the_size_before_from_c() {
+    assert_eq!(from_c("preview"), "0: 38 3 1\n10: 0 0 0\n10: 2 0 0\n2: 1 0 0\n6: 0 0 0\n6: 0 0 0\n6: 0 0 0\n7: 1 0 0\n0: 38 3 1\n");
 }
 
 #[test]

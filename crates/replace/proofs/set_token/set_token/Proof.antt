@@ -2,44 +2,31 @@ use borrow.Author.Needs.{needs}
 use Rattle.replace.proofs.SetReturns.{leaf-cases}
 use Rattle.replace.proofs.set_token.set_token.Statement.{statement}
 use Rattle.replace.proofs.set_token.set_token.Tie as tie
-use Rattle.replace.proofs.set_token.set_token.Reads as reads
-use Rattle.replace.proofs.set_token.set_token.Lts as lts
-use Rattle.builder.proofs.range.leaf_words.Reads as leaf-words-reads
-use Rattle.replace.proofs.set_token.set_token_words.Reads as set-token-words-reads
 
--- src/set_token.rt:154:17
 leaf-words-requires : tie.Need-leaf-words-requires
 leaf-words-requires c κs = search (needs, leaf-cases)
 
--- src/set_token.rt:155:5
 set-token-words-requires : tie.Need-set-token-words-requires
 set-token-words-requires c κs = search (needs, leaf-cases)
 
--- src/set_token.rt:134:1
 same-length : tie.Need-same-length
 same-length c = search (needs, leaf-cases)
 
--- src/set_token.rt:134:1
 same-length-2 : tie.Need-same-length-2
 same-length-2 c = search (needs, leaf-cases)
 
--- src/set_token.rt:134:1
 same-length-3 : tie.Need-same-length-3
 same-length-3 c = search (needs, leaf-cases)
 
--- src/set_token.rt:134:1
 same-length-4 : tie.Need-same-length-4
 same-length-4 c = search (needs, leaf-cases)
 
--- src/set_token.rt:134:1
 same-length-5 : tie.Need-same-length-5
 same-length-5 c = search (needs, leaf-cases)
 
--- src/set_token.rt:134:1
 same-length-6 : tie.Need-same-length-6
 same-length-6 c = search (needs, leaf-cases)
 
--- src/set_token.rt:134:1
 returns : tie.Need-returns
 returns c = search (needs, leaf-cases)
 
