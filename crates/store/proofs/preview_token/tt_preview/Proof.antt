@@ -1,5 +1,5 @@
 use borrow.Author.Needs.{needs}
-use Rattle.store.proofs.PreviewReturns.{preview-cases}
+use Rattle.store.proofs.PreviewReturns.{preview-cases, preview-told}
 use Rattle.store.proofs.preview_token.tt_preview.Statement.{statement}
 use Rattle.store.proofs.preview_token.tt_preview.Tie as tie
 
@@ -19,7 +19,10 @@ same-length-3 : tie.Need-same-length-3
 same-length-3 c = search (needs, preview-cases)
 
 returns : tie.Need-returns
-returns c = search (needs, preview-cases)
+returns c =
+    let previewed = c .before .before .before .before .before .before .before .before .preview-words .ensures in
+    let told = c .tell .ensures in
+    preview-told _ _ _ _ _ _ _ _ _ _ _ _ _ previewed _ _ told
 
 pub tt-preview-spec : {M : Type 1} → statement M
 tt-preview-spec =
