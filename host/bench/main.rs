@@ -18,6 +18,7 @@ mod buffers;
 mod builders;
 mod list;
 mod lists;
+mod packers;
 mod replace;
 mod tidy;
 mod timing;
@@ -28,6 +29,7 @@ fn main() {
     println!("| what | ours, ns | the source's, ns | ratio |");
     println!("|---|---|---|---|");
     tree::spans();
+    packers::run();
     tree::trees();
     lists::run();
     walks::run();

@@ -8,6 +8,7 @@ mod lists;
 mod machine;
 mod maker;
 mod pack;
+mod packers;
 mod plain;
 mod plain_buffer;
 mod plain_builder;
@@ -37,8 +38,9 @@ fn main() {
     let many: u64 = std::env::args().nth(1).map_or(1, |x| x.parse().expect("how many times the usual number"));
     // all parts are run, unless a word is given that their names must hold
     let word = std::env::args().nth(2).unwrap_or_default();
-    let parts: [(&str, &dyn Fn(&mut Tally)); 34] = [
+    let parts: [(&str, &dyn Fn(&mut Tally)); 35] = [
         ("spans and symbols written", &|t| pack::write(t)),
+        ("lists of spans packed, both packers", &|t| packers::lists(t, 1_000_000 * many)),
         ("spans and symbols read", &|t| pack::read(t)),
         ("spans read, every form", &|t| forms::read_spans(t, 100_000 * many)),
         ("trees written", &|t| tree::write(t, 1_000_000 * many)),

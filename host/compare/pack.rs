@@ -1,4 +1,5 @@
 //! Spans and symbols: every field at its limits, one below and one above; random bytes read.
+use crate::packers;
 use crate::plain;
 use crate::proved;
 use crate::random::Random;
@@ -41,15 +42,12 @@ pub fn write(tally: &mut Tally) {
         for &start in &around(&[0, 131071, 131072, 134217727, 134217728, 1 << 31, u32::MAX as u64]) {
             for &len in &around(&[0, 255, 256, 65535, 65536, 262143, 262144, u32::MAX as u64]) {
                 for (extra, heavy) in (0..=4).flat_map(|x| [(x, false), (x, true)]) {
-                    let refusal = if extra > 3 || start.checked_add(len).is_none() {
-                        Some(2)
-                    } else if index >= 1 << 28 {
-                        Some(8)
-                    } else {
-                        None
-                    };
+                    let span = [index, start, len];
+                    let refusal = packers::refusal(span, extra);
                     let bytes = if refusal.is_none() { TopSubtree::encode_span_bytes(index, start, len, extra, heavy) } else { Box::default() };
-                    let ok = held(refusal, &bytes, |out, at| proved::encode_span(out, at, [index, start, len], extra, heavy));
+                    let ok = held(refusal, &bytes, |out, at| proved::encode_span(out, at, span, extra, heavy))
+                        && held(refusal, &bytes, |out, at| proved::pack_all(out, at, &span, extra, heavy))
+                        && held(refusal, &bytes, |out, at| proved::pack_all_by_form(out, at, &span, extra, heavy));
                     tally.case(ok, || format!("span {index} {start} {len} {extra} {heavy}"));
                 }
             }

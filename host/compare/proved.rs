@@ -1,4 +1,4 @@
-//! The proved functions, through the static libraries of the crates `export` and `store`.
+//! The proved functions, through the static libraries of the crates `export` and `store`; both span packers through those that measure them.
 
 /// A reply at or above this is a refusal; its number is what lies above.
 pub const REFUSED: u64 = 1 << 63;
@@ -6,6 +6,8 @@ pub const REFUSED: u64 = 1 << 63;
 mod raw {
     unsafe extern "C" {
         pub fn tt_encode_span(out: *mut u8, len: usize, at: usize, index: u32, start: u32, length: u32, extra: u32, heavy: bool) -> u64;
+        pub fn tt_pack_all(out: *mut u8, len: usize, at: usize, spans: *const u32, words: usize, extra: u32, heavy: bool) -> u64;
+        pub fn tt_pack_all_by_form(out: *mut u8, len: usize, at: usize, spans: *const u32, words: usize, extra: u32, heavy: bool) -> u64;
         pub fn tt_encode_symbol(out: *mut u8, len: usize, at: usize, tag: u32, index: u32) -> u64;
         pub fn tt_decode_span(b: *const u8, len: usize, at: usize, words: *mut u32, room: usize) -> u64;
         pub fn tt_decode_symbol(b: *const u8, len: usize, at: usize, words: *mut u32, room: usize) -> u64;
@@ -135,6 +137,16 @@ fn reply(code: u64) -> Result<u64, u64> {
 #[inline]
 pub fn encode_span(out: &mut [u8], at: usize, span: [u32; 3], extra: u32, heavy: bool) -> Result<u64, u64> {
     reply(unsafe { raw::tt_encode_span(out.as_mut_ptr(), out.len(), at, span[0], span[1], span[2], extra, heavy) })
+}
+
+/// Spans of index, start and length one behind the other, in one call.
+pub fn pack_all(out: &mut [u8], at: usize, spans: &[u32], extra: u32, heavy: bool) -> Result<u64, u64> {
+    reply(unsafe { raw::tt_pack_all(out.as_mut_ptr(), out.len(), at, spans.as_ptr(), spans.len(), extra, heavy) })
+}
+
+/// The same by the reference of the span packer.
+pub fn pack_all_by_form(out: &mut [u8], at: usize, spans: &[u32], extra: u32, heavy: bool) -> Result<u64, u64> {
+    reply(unsafe { raw::tt_pack_all_by_form(out.as_mut_ptr(), out.len(), at, spans.as_ptr(), spans.len(), extra, heavy) })
 }
 
 #[inline]

@@ -1,99 +1,106 @@
 -- One law for each return of the functions that pack, with premises as the code's tests and calls give them.
-use Prim.Native.Nat.{ℕ, _+_, _-_, _<_, _≤_}
+use Prim.Native.Nat.{ℕ, _+_, _*_, _-_, _/_, _%_, _<_, _≤_}
 use mathlib.Core.Bool.{Bool, true, false, not, _&&_}
 use mathlib.Core.Path.{_≡_, refl, sym, ap, _∙_}
 use mathlib.Core.List.{List, _++_}
 use native.Mathlib.Omega.{arith}
-use borrow.Author.Tests.{lt-ltb, le-ltb, le-leb, lt-leb, ltb-true, not-true, not-false}
+use borrow.Author.Tests.{lt-ltb, le-ltb, le-leb, lt-leb, not-true, not-false}
 use lib.Dec.{ltb, leb}
 use lib.ListN.{length}
 use Rattle.format.specs.Word.{wordBytes, put}
 use Rattle.format.specs.Span.{Span}
-use Rattle.format.specs.Write.{firstWord, secondWord, heavySecond, heavyThird, heavyBytes, spanBytes, symbolBytes}
+use Rattle.format.specs.Write.{firstWord, heavyBytes, spanBytes, symbolBytes}
 use Rattle.format.specs.Pack.{spanForm}
-use Rattle.format.proofs.Each.{and₃}
 use Rattle.format.proofs.Kept.{kept}
 use Rattle.pack.specs.Answer.{packedAnswer, allBelow}
-use Rattle.pack.specs.Packing.{Stored, SpanPacked, SymbolPacked, extendedBytes}
+use Rattle.pack.specs.Packing.{Stored, SpanPacked, SymbolPacked, twoWords, threeWords}
 use Rattle.pack.specs.declared.Packed.{Packed}
 use Rattle.pack.specs.declared.Packed.the-variants.{Written, Refused}
 use Rattle.pack.proofs.Store.{put-put}
 use Rattle.pack.proofs.Sizes.{symbol-length, symbol-least}
+use Rattle.pack.proofs.RestsLaw.{taken-below, word-only, no-rests, rests-small, rests-extended, start-rest-fits, len-rest-whole, rests-second, rests-heavy-second, rests-heavy-third}
 
--- ---- one form, where there is room for it
+-- ---- the words of a form, where there is room for them
 
 module _ (b : List ℕ) (at : ℕ) (vs : List ℕ) where
-  pub no-room : (r : ℕ) → r ≡ length b - at → r < length vs → Stored b at vs (Refused 6) b
+  pub no-room : length b < at + length vs → Stored b at vs (Refused 6) b
   unfolding packedAnswer
-  no-room r e h =
-      let k : length b < at + length vs = omega arith in
-      record { answer = simp (lt-leb _ _ k); contents = simp (lt-leb _ _ k) }
+  no-room k = record { answer = simp (lt-leb _ _ k); contents = simp (lt-leb _ _ k) }
+
+  pub short-run : length b < length vs → Stored b at vs (Refused 6) b
+  short-run h = no-room (omega arith)
+
+  pub late-place : length b - length vs < at → Stored b at vs (Refused 6) b
+  late-place h = no-room (omega arith)
 
   with-room : (b′ : List ℕ) → at + length vs ≤ length b → b′ ≡ put b at vs → Stored b at vs (Written (length vs)) b′
   unfolding packedAnswer
   with-room b′ k e = record { answer = simp (le-leb _ _ k); contents = simp (le-leb _ _ k) e }
 
-pub no-room-heavy : (b : List ℕ) (at x : ℕ) (s : Span) (r : ℕ) → r ≡ length b - at → r < 12 → Stored b at (heavyBytes x s) (Refused 6) b
-unfolding heavyBytes
-no-room-heavy b at x s r e h = no-room b at (heavyBytes x s) r e h
+module _ (b b₁ : List ℕ) (at w : ℕ) (e₁ : b₁ ≡ put b at (wordBytes w)) where
+  pub one-stored : at + 4 ≤ length b → Stored b at (wordBytes w) (Written 4) b₁
+  one-stored h = with-room b at (wordBytes w) b₁ h e₁
 
-module _ (b b₁ : List ℕ) (at x w : ℕ) (s : Span) (r : ℕ) (e : r ≡ length b - at) (e₁ : b₁ ≡ put b at (wordBytes w)) where
-  pub small-written : w ≡ firstWord x 0 s → 4 ≤ r → Stored b at (wordBytes (firstWord x 0 s)) (Written 4) b₁
-  small-written f h = with-room b at (wordBytes (firstWord x 0 s)) b₁ (omega arith) (e₁ ∙ rw f)
-
-  module _ (f : w ≡ firstWord x 1 s) (b₂ : List ℕ) (v : ℕ) (e₂ : b₂ ≡ put b₁ (at + 4) (wordBytes v)) where
-    pub extended-written : v ≡ secondWord s → 8 ≤ r → Stored b at (extendedBytes x s) (Written 8) b₂
-    extended-written g h =
+  module _ (b₂ : List ℕ) (v : ℕ) (e₂ : b₂ ≡ put b₁ (at + 4) (wordBytes v)) where
+    pub two-stored : at + 8 ≤ length b → Stored b at (twoWords w v) (Written 8) b₂
+    two-stored h =
         let p = put-put b at 4 (wordBytes w) (wordBytes v) refl (omega arith) in
-        with-room b at (extendedBytes x s) b₂ (omega arith) (e₂ ∙ rw (e₁, p, f, g))
+        with-room b at (twoWords w v) b₂ h (e₂ ∙ rw (e₁, p))
 
-    pub heavy-written : v ≡ heavySecond s → (b₃ : List ℕ) (u : ℕ) → b₃ ≡ put b₂ (at + 8) (wordBytes u) → u ≡ heavyThird s → 12 ≤ r → Stored b at (heavyBytes x s) (Written 12) b₃
-    unfolding heavyBytes
-    heavy-written g b₃ u e₃ k h =
+    pub three-stored : (b₃ : List ℕ) (u : ℕ) → b₃ ≡ put b₂ (at + 8) (wordBytes u) → at + 12 ≤ length b → Stored b at (threeWords w v u) (Written 12) b₃
+    three-stored b₃ u e₃ h =
         let p = put-put b at 4 (wordBytes w) (wordBytes v) refl (omega arith) in
         let q = put-put b at 8 (wordBytes w ++ wordBytes v) (wordBytes u) refl (omega arith) in
-        with-room b at (heavyBytes x s) b₃ (omega arith) (e₃ ∙ rw (e₂, e₁, p, q, f, g, k))
+        with-room b at (threeWords w v u) b₃ h (e₃ ∙ rw (e₂, e₁, p, q))
+
+pub fitted : (at n l : ℕ) → n ≤ l → at ≤ l - n → at + n ≤ l
+fitted at n l g h = omega arith
 
 -- the first store keeps the length, and so does the second
-pub ruleset pack-word-cases = (no-room, no-room-heavy, small-written, extended-written, heavy-written, kept)
+pub ruleset put-words-cases = (short-run, late-place, one-stored, two-stored, three-stored, fitted, kept)
 
--- ---- the form that is chosen
+-- ---- the form that the rests choose
 
-module _ (i t l : ℕ) (y : Bool) (e : y ≡ (ltb i 32768 && ltb t 134217728 && ltb l 262144)) (f : y ≡ true) where
-  pub extended-index : i < 32768
-  extended-index = ltb-true i 32768 (and₃ (ltb i 32768) (ltb t 134217728) (ltb l 262144) (sym e ∙ f) .0)
+module _ (b : List ℕ) (at x : ℕ) (s : Span) (heavy : Bool) (r : Packed) (b′ : List ℕ) (w : ℕ) where
+  module _ (i t l : ℕ) (d₁ : i ≡ s .index - s .index % 16) (d₂ : t ≡ s .start - s .start % 131072) (d₃ : l ≡ s .len - s .len % 256) where
+    -- what the first word takes
+    module _ (a c d : ℕ) (e₁ : a ≡ s .index % 16) (e₂ : c ≡ s .start % 131072) (e₃ : d ≡ s .len % 256) (f : w ≡ x + 4 * a + 64 * d + 16384 * 1 + 32768 * c) where
+      word-first : w ≡ firstWord x 1 s
+      word-first = f ∙ rw (e₁, e₂, e₃)
 
-  pub extended-start : t < 134217728
-  extended-start = ltb-true t 134217728 (and₃ (ltb i 32768) (ltb t 134217728) (ltb l 262144) (sym e ∙ f) .1)
+      module _ (v u : ℕ) (m : v ≡ 1 + 2 * (l / 65536) + t) (n : u ≡ i / 16 + 65536 * (l % 65536)) where
+        words-heavy : threeWords w v u ≡ heavyBytes x s
+        unfolding heavyBytes
+        words-heavy = rw (word-first, rests-heavy-second s i t l d₁ d₂ d₃ v m, rests-heavy-third s i t l d₁ d₂ d₃ u n)
 
-  pub extended-len : l < 262144
-  extended-len = ltb-true l 262144 (and₃ (ltb i 32768) (ltb t 134217728) (ltb l 262144) (sym e ∙ f) .2)
+        pub rests-forced : not heavy ≡ false → Stored b at (threeWords w v u) r b′ → Stored b at (spanForm heavy x s) r b′
+        rests-forced e p = simp (not-false heavy e, ← words-heavy) p
 
-module _ (b : List ℕ) (at x : ℕ) (s : Span) (heavy : Bool) (r : Packed) (b′ : List ℕ) where
-  pub form-forced : heavy ≡ true → Stored b at (heavyBytes x s) r b′ → Stored b at (spanForm heavy x s) r b′
-  form-forced e p = rw e p
-
-  module _ (e : heavy ≡ false) (y : Bool) (f : y ≡ allBelow s 16 131072 256) where
-    pub form-small : y ≡ true → Stored b at (wordBytes (firstWord x 0 s)) r b′ → Stored b at (spanForm heavy x s) r b′
-    unfolding spanBytes
-    form-small g p = let k : allBelow s 16 131072 256 ≡ true = sym f ∙ g in simp (e, k) p
-
-    module _ (g : y ≡ false) (z : Bool) (h : z ≡ allBelow s 32768 134217728 262144) where
-      pub form-extended : z ≡ true → Stored b at (extendedBytes x s) r b′ → Stored b at (spanForm heavy x s) r b′
+    module _ (e : not heavy ≡ true) (y : Bool) (g : y ≡ (ltb i 1 && ltb t 1 && ltb l 1)) where
+      pub rests-one : w ≡ x + 4 * s .index + 64 * s .len + 16384 * 0 + 32768 * s .start → y ≡ true → Stored b at (wordBytes w) r b′ → Stored b at (spanForm heavy x s) r b′
       unfolding spanBytes
-      form-extended j p =
-          let k : allBelow s 16 131072 256 ≡ false = sym f ∙ g in
-          let m : allBelow s 32768 134217728 262144 ≡ true = sym h ∙ j in
-          simp (e, k, m) p
+      rests-one f h p =
+          let k : w ≡ firstWord x 0 s = word-only x s w f (no-rests s i t l d₁ d₂ d₃ y g h) in
+          simp (not-true heavy e, rests-small s i t l d₁ d₂ d₃ ∙ sym g ∙ h, ← k) p
 
-      pub form-large : z ≡ false → Stored b at (heavyBytes x s) r b′ → Stored b at (spanForm heavy x s) r b′
-      unfolding spanBytes
-      form-large j p =
-          let k : allBelow s 16 131072 256 ≡ false = sym f ∙ g in
-          let m : allBelow s 32768 134217728 262144 ≡ false = sym h ∙ j in
-          simp (e, k, m) p
+      module _ (h : y ≡ false) (z : Bool) (k : z ≡ (ltb i 32768 && ltb t 134217728 && ltb l 262144)) where
+        not-small : allBelow s 16 131072 256 ≡ false
+        not-small = rests-small s i t l d₁ d₂ d₃ ∙ sym g ∙ h
 
-pub ruleset pack-form-cases = (extended-index, extended-start, extended-len, form-forced, form-small, form-extended, form-large)
+        extended : allBelow s 32768 134217728 262144 ≡ z
+        extended = rests-extended s i t l d₁ d₂ d₃ ∙ sym k
+
+        module _ (a c d : ℕ) (e₁ : a ≡ s .index % 16) (e₂ : c ≡ s .start % 131072) (e₃ : d ≡ s .len % 256) (f : w ≡ x + 4 * a + 64 * d + 16384 * 1 + 32768 * c) where
+          pub rests-two : (v : ℕ) → v ≡ i / 8 + 16 * l + 32 * t → z ≡ true → Stored b at (twoWords w v) r b′ → Stored b at (spanForm heavy x s) r b′
+          unfolding spanBytes
+          rests-two v j m p =
+              simp (not-true heavy e, not-small, extended ∙ m, ← word-first a c d e₁ e₂ e₃ f, ← rests-second s i t l d₁ d₂ d₃ v j) p
+
+          pub rests-three : (v u : ℕ) → v ≡ 1 + 2 * (l / 65536) + t → u ≡ i / 16 + 65536 * (l % 65536) → z ≡ false → Stored b at (threeWords w v u) r b′ → Stored b at (spanForm heavy x s) r b′
+          unfolding spanBytes
+          rests-three v u j n m p = simp (not-true heavy e, not-small, extended ∙ m, ← words-heavy a c d e₁ e₂ e₃ f v u j n) p
+
+pub ruleset pack-rests-cases = (start-rest-fits, len-rest-whole, taken-below, rests-one, rests-two, rests-three, rests-forced)
 
 -- ---- the refusals
 

@@ -8,7 +8,7 @@ use Rattle.format.specs.Verdict.{report}
 use Rattle.format.specs.Verdict as verdict
 use Rattle.format.specs.Word.{wordBytes, put}
 use Rattle.format.specs.Span.{Span}
-use Rattle.format.specs.Write.{join, firstWord, secondWord}
+use Rattle.format.specs.Write.{join}
 use Rattle.format.specs.Pack.{roomFor, spanReport, spanPacked, symbolReport, symbolPacked}
 use Rattle.pack.specs.Answer.{packedAnswer}
 use Rattle.pack.specs.declared.Packed.{Packed}
@@ -21,9 +21,12 @@ pub record SymbolPacked (b : List ℕ) (at tag i : ℕ) (r : Packed) (b′ : Lis
   pub answer : r ≡ packedAnswer (symbolReport b at tag i)
   pub contents : b′ ≡ symbolPacked b at tag i
 
--- the bytes of the two-word form
-abbrev pub extendedBytes : ℕ → Span → List ℕ
-extendedBytes extra s = join (wordBytes (firstWord extra 1 s) ∷ wordBytes (secondWord s) ∷ [])
+-- words one behind the other
+abbrev pub twoWords : ℕ → ℕ → List ℕ
+twoWords w v = join (wordBytes w ∷ wordBytes v ∷ [])
+
+abbrev pub threeWords : ℕ → ℕ → ℕ → List ℕ
+threeWords w v u = join (wordBytes w ∷ wordBytes v ∷ wordBytes u ∷ [])
 
 -- bytes that are in bounds: only row 6 is left
 pub record Stored (b : List ℕ) (at : ℕ) (vs : List ℕ) (r : Packed) (b′ : List ℕ) : Type 0 where

@@ -1,4 +1,5 @@
 // Packing and reading of one span and of one symbol. The crates above know of either what these functions promise.
+mod rests;
 pub mod span;
 pub mod symbol;
 pub mod unchecked;
@@ -13,7 +14,7 @@ pub enum Packed {
 }
 
 // What is left of a run of `len` behind a place, none where the place lies past its end: one test serves every place.
-fn room(len: usize, at: usize) -> usize
+pub fn room(len: usize, at: usize) -> usize
     ensures { λ r. ⌜ r ≡ len - at ⌝ }
 {
     if len < at {

@@ -1,5 +1,13 @@
 // Packing and reading of one span: one, two or three little-endian words.
 use crate::Packed;
+use crate::rests::are_none;
+use crate::rests::first_word;
+use crate::rests::fit_second_word;
+use crate::rests::heavy_second;
+use crate::rests::heavy_third;
+use crate::rests::rests_of;
+use crate::rests::second_word;
+use crate::rests::taken_of;
 use crate::room;
 use crate::unchecked::put_word;
 use crate::unchecked::word_at;
@@ -9,10 +17,10 @@ ghost use lib.ListN.{length};
 ghost use lib.Dec.{ltb, leb};
 ghost use Rattle.format.specs.Word.{wordBytes};
 ghost use Rattle.format.specs.Span.{span₁, span₂, span₃, spanAt};
-ghost use Rattle.format.specs.Write.{firstWord, secondWord, heavySecond, heavyThird, heavyBytes, spanBytes};
+ghost use Rattle.format.specs.Write.{spanBytes};
 ghost use Rattle.format.specs.Pack.{spanForm};
 ghost use Rattle.pack.specs.Answer.{spanOf, spanHere, spanAnswer, decodedAnswer, allBelow};
-ghost use Rattle.pack.specs.Packing.{extendedBytes, Stored, SpanPacked};
+ghost use Rattle.pack.specs.Packing.{twoWords, threeWords, Stored, SpanPacked};
 
 // A span as it is packed: the index of its part, its start and its length.
 pub struct PackedSpan {
@@ -133,14 +141,14 @@ fn all_below(span: PackedSpan, i: u32, s: u32, l: u32) -> bool
 }
 
 // Whether one word holds the span.
-fn is_small(span: PackedSpan) -> bool
+pub fn is_small(span: PackedSpan) -> bool
     ensures { λ r. ⌜ r ≡ allBelow (spanOf span) 16 131072 256 ⌝ }
 {
     all_below(span, 16, 131072, 256)
 }
 
 // Whether two words hold the span.
-fn is_extended(span: PackedSpan) -> bool
+pub fn is_extended(span: PackedSpan) -> bool
     ensures { λ r. ⌜ r ≡ allBelow (spanOf span) 32768 134217728 262144 ⌝ }
 {
     all_below(span, 32768, 134217728, 262144)
@@ -192,89 +200,74 @@ pub fn decode_span(b: &[u8], at: usize) -> SpanDecoded
     })
 }
 
-fn first_word(extra: u32, extend: u32, span: PackedSpan) -> u32
-    requires { ⌜ (extra ≤ 3) × (extend ≤ 1) ⌝ }
-    ensures { λ r. ⌜ r ≡ firstWord extra extend (spanOf span) ⌝ }
+// The words of a form, where there is room: the place is held against the last from which they fit, which takes less
+// time here than `room`.
+fn put_one(out: &mut [u8], at: usize, first: u32) -> Packed
+    ensures { λ r. ⌜ Stored (now (out .entry)) at (wordBytes first) r (now (out .exit)) ⌝ }
 {
-    extra
-        + 4 * (span.index % 16)
-        + 64 * (span.len % 256)
-        + 16384 * extend
-        + 32768 * (span.start % 131072)
-}
-
-fn second_word(span: PackedSpan) -> u32
-    requires { ⌜ (span .index < 32768) × (span .start < 134217728) × (span .len < 262144) ⌝ }
-    ensures { λ r. ⌜ r ≡ secondWord (spanOf span) ⌝ }
-{
-    2 * (span.index / 16) + 4096 * (span.len / 256) + 4194304 * (span.start / 131072)
-}
-
-fn heavy_second(span: PackedSpan) -> u32
-    ensures { λ r. ⌜ r ≡ heavySecond (spanOf span) ⌝ }
-{
-    1 + 2 * (span.len / 65536) + 131072 * (span.start / 131072)
-}
-
-fn heavy_third(span: PackedSpan) -> u32
-    requires { ⌜ span .index < 268435456 ⌝ }
-    ensures { λ r. ⌜ r ≡ heavyThird (spanOf span) ⌝ }
-{
-    span.index / 16 + 16777216 * (span.len / 256 % 256)
-}
-
-fn pack_small(out: &mut [u8], at: usize, span: PackedSpan, extra: u32) -> Packed
-    requires { ⌜ extra ≤ 3 ⌝ }
-    ensures { λ r. ⌜ Stored (now (out .entry)) at (wordBytes (firstWord extra 0 (spanOf span))) r
-        (now (out .exit)) ⌝ }
-{
-    if room(out.len(), at) < 4 {
+    if out.len() < 4 {
         return Packed::Refused(6);
     }
-    put_word(out, at, first_word(extra, 0, span));
+    if out.len() - 4 < at {
+        return Packed::Refused(6);
+    }
+    put_word(out, at, first);
     Packed::Written(4)
 }
 
-fn pack_extended(out: &mut [u8], at: usize, span: PackedSpan, extra: u32) -> Packed
-    requires { ⌜ (extra ≤ 3) × (span .index < 32768) × (span .start < 134217728) × (span .len < 262144) ⌝ }
-    ensures { λ r. ⌜ Stored (now (out .entry)) at (extendedBytes extra (spanOf span)) r (now (out .exit)) ⌝ }
+fn put_two(out: &mut [u8], at: usize, first: u32, second: u32) -> Packed
+    ensures { λ r. ⌜ Stored (now (out .entry)) at (twoWords first second) r (now (out .exit)) ⌝ }
 {
-    if room(out.len(), at) < 8 {
+    if out.len() < 8 {
         return Packed::Refused(6);
     }
-    put_word(out, at, first_word(extra, 1, span));
-    put_word(out, at + 4, second_word(span));
+    if out.len() - 8 < at {
+        return Packed::Refused(6);
+    }
+    put_word(out, at, first);
+    put_word(out, at + 4, second);
     Packed::Written(8)
 }
 
-fn pack_heavy(out: &mut [u8], at: usize, span: PackedSpan, extra: u32) -> Packed
-    requires { ⌜ (extra ≤ 3) × (span .index < 268435456) ⌝ }
-    ensures { λ r. ⌜ Stored (now (out .entry)) at (heavyBytes extra (spanOf span)) r (now (out .exit)) ⌝ }
+fn put_three(out: &mut [u8], at: usize, first: u32, second: u32, third: u32) -> Packed
+    ensures { λ r. ⌜ Stored (now (out .entry)) at (threeWords first second third) r (now (out .exit)) ⌝ }
 {
-    if room(out.len(), at) < 12 {
+    if out.len() < 12 {
         return Packed::Refused(6);
     }
-    put_word(out, at, first_word(extra, 1, span));
-    put_word(out, at + 4, heavy_second(span));
-    put_word(out, at + 8, heavy_third(span));
+    if out.len() - 12 < at {
+        return Packed::Refused(6);
+    }
+    put_word(out, at, first);
+    put_word(out, at + 4, second);
+    put_word(out, at + 8, third);
     Packed::Written(12)
 }
 
-// Packs a span that has passed rows 2 and 8 in the form that it is to have.
-fn pack_form(out: &mut [u8], at: usize, span: PackedSpan, extra: u32, heavy: bool) -> Packed
+// Packs a span that has passed rows 2 and 8. Each number is divided once, into what the first word takes and a rest;
+// the rests choose the form and fill the other words. Where there is none, the first word takes the span as it is.
+fn pack_by_rests(out: &mut [u8], at: usize, span: PackedSpan, extra: u32, heavy: bool) -> Packed
     requires { ⌜ (extra ≤ 3) × (span .index < 268435456) ⌝ }
     ensures { λ r. ⌜ Stored (now (out .entry)) at (spanForm heavy extra (spanOf span)) r (now (out .exit)) ⌝ }
 {
-    if heavy {
-        return pack_heavy(out, at, span, extra);
+    let rests = rests_of(span);
+    if !heavy {
+        if are_none(rests) {
+            return put_one(out, at, first_word(extra, 0, span));
+        }
+        if fit_second_word(rests) {
+            let taken = taken_of(span, rests);
+            return put_two(out, at, first_word(extra, 1, taken), second_word(rests));
+        }
     }
-    if is_small(span) {
-        return pack_small(out, at, span, extra);
-    }
-    if is_extended(span) {
-        return pack_extended(out, at, span, extra);
-    }
-    pack_heavy(out, at, span, extra)
+    let taken = taken_of(span, rests);
+    put_three(
+        out,
+        at,
+        first_word(extra, 1, taken),
+        heavy_second(rests),
+        heavy_third(rests),
+    )
 }
 
 // Row 2 of a span: start + length is at most 4,294,967,295.
@@ -306,5 +299,5 @@ pub fn encode_span_no_map(
     if 268435456 <= span.index {
         return Packed::Refused(8);
     }
-    pack_form(out, at, span, extra, heavy)
+    pack_by_rests(out, at, span, extra, heavy)
 }

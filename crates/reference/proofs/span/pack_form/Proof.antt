@@ -1,7 +1,7 @@
 use borrow.Author.Needs.{needs}
-use Rattle.pack.proofs.PackReturns.{pack-form-cases}
-use Rattle.pack.proofs.span.pack_form.Statement.{statement}
-use Rattle.pack.proofs.span.pack_form.Tie as tie
+use Rattle.reference.proofs.PackReturns.{pack-form-cases}
+use Rattle.reference.proofs.span.pack_form.Statement.{statement}
+use Rattle.reference.proofs.span.pack_form.Tie as tie
 
 pack-heavy-requires : tie.Need-pack-heavy-requires
 pack-heavy-requires c κs = search (needs, pack-form-cases)

@@ -1,7 +1,7 @@
 use borrow.Author.Needs.{needs}
-use Rattle.pack.proofs.PackReturns.{pack-word-cases}
-use Rattle.pack.proofs.span.pack_heavy.Statement.{statement}
-use Rattle.pack.proofs.span.pack_heavy.Tie as tie
+use Rattle.reference.proofs.PackReturns.{pack-word-cases}
+use Rattle.reference.proofs.span.pack_extended.Statement.{statement}
+use Rattle.reference.proofs.span.pack_extended.Tie as tie
 
 room-requires : tie.Need-room-requires
 room-requires c κs = search (needs, pack-word-cases)
@@ -18,20 +18,11 @@ put-word-requires c κs = search (needs, pack-word-cases)
 add-put-word : tie.Need-add-put-word
 add-put-word c = search (needs, pack-word-cases)
 
-heavy-second-requires : tie.Need-heavy-second-requires
-heavy-second-requires c κs = search (needs, pack-word-cases)
+second-word-requires : tie.Need-second-word-requires
+second-word-requires c κs = search (needs, pack-word-cases)
 
 put-word-requires-2 : tie.Need-put-word-requires-2
 put-word-requires-2 c κs = search (needs, pack-word-cases)
-
-add-put-word-2 : tie.Need-add-put-word-2
-add-put-word-2 c = search (needs, pack-word-cases)
-
-heavy-third-requires : tie.Need-heavy-third-requires
-heavy-third-requires c κs = search (needs, pack-word-cases)
-
-put-word-requires-3 : tie.Need-put-word-requires-3
-put-word-requires-3 c κs = search (needs, pack-word-cases)
 
 same-length : tie.Need-same-length
 same-length c = search (needs, pack-word-cases)
@@ -39,8 +30,8 @@ same-length c = search (needs, pack-word-cases)
 returns-2 : tie.Need-returns-2
 returns-2 c = search (needs, pack-word-cases)
 
-pub pack-heavy-spec : {M : Type 1} → statement M
-pack-heavy-spec =
+pub pack-extended-spec : {M : Type 1} → statement M
+pack-extended-spec =
     tie.close
     (tie.spec
     room-requires
@@ -48,10 +39,7 @@ pack-heavy-spec =
     first-word-requires
     put-word-requires
     add-put-word
-    heavy-second-requires
+    second-word-requires
     put-word-requires-2
-    add-put-word-2
-    heavy-third-requires
-    put-word-requires-3
     same-length
     returns-2)

@@ -1,7 +1,7 @@
 use borrow.Author.Needs.{needs}
-use Rattle.pack.proofs.PackReturns.{pack-word-cases}
-use Rattle.pack.proofs.span.pack_small.Statement.{statement}
-use Rattle.pack.proofs.span.pack_small.Tie as tie
+use Rattle.reference.proofs.PackReturns.{pack-word-cases}
+use Rattle.reference.proofs.span.pack_small.Statement.{statement}
+use Rattle.reference.proofs.span.pack_small.Tie as tie
 
 room-requires : tie.Need-room-requires
 room-requires c κs = search (needs, pack-word-cases)

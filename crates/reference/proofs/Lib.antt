@@ -1,0 +1,3 @@
+pub mod PackReturns
+pub mod ListReturns
+pub mod Agree

@@ -1,0 +1,3 @@
+// The reference for the span packer, and loops of one shape over both. No part of the product uses it.
+pub mod lists;
+pub mod span;
