@@ -1,4 +1,4 @@
-"""Bundles and their listing, written from document 01 (docs/01-scope.md) and, for loose spans, document 02: none of the proved code is used.
+"""Bundles and their listing, written from document 01 (docs/01-scope.md) and, for loose spans and the distance bits of 000, document 02: none of the proved code is used.
 
 Trees are built from bytes by the functions below; `listing` is the lister's text for any run of bytes."""
 
@@ -198,11 +198,9 @@ def read_tree(b, first):
         other = size % 16 * 8 + (c >> 5)
         return "subtree", here + [(other, start + away, length)], None, count, size >> 4, True, loose, p + 4
     count, kids = word(b, p, 1), word(b, p + 1, 1)
-    if low == 0:
-        away, length = length | (c >> 5) * 256, 1
-    else:
-        away = c >> 5
-    return "subtree", [(part, start, length), (part, start + away, length)], None, count, kids, True, loose, p + 2
+    if low == 1:
+        return "subtree", here + [(part, start + (c >> 5), length)], None, count, kids, True, loose, p + 2
+    return "subtree", [(part, start, 1), (part, start + length, 1)], None, count, kids, c >> 5 == length >> 8, loose, p + 2
 
 
 def judged(b, n, p, parts, symbols):

@@ -79,6 +79,8 @@ CASES = {
     "loose_close_extra_bits": (listed((span(0, 9, 1) + b"\x05" + span(0, 5, 1, 3, 8) + bytes(8), 0)), None),
     "distance_300_in_8": (listed(subtree(0, 9, 309, 0, [])), None),
     "distance_300_in_12": (listed(subtree(0, 9, 309, 0, [], open_form=12)), None),
+    "distance_256": (listed(subtree(0, 5, 261, 0, [])), None),
+    "distance_2047": (listed(subtree(0, 5, 2052, 0, [])), None),
     "distance_255_in_8": (listed(subtree(0, 9, 264, 0, [], open_form=8)), None),
     "limits_of_4": (of(root(19, [at_limit(15, 131071, 255, 8), at_limit(16, 131071, 255, 8), at_limit(15, 131072, 255, 8), at_limit(15, 131071, 256, 8)]), 5, (), 19), None),
     "limits_of_8": (listed(at_limit(0, 134217727, 262143, 12), at_limit(0, 134217728, 262143, 12), at_limit(0, 134217727, 262144, 12)), None),
@@ -113,6 +115,13 @@ CASES = {
     "range_too_far": (of(root(3, [leaf(punct(0, MAX, "+"))]), 2), (2, 1)),
     "close_too_far": (of(root(3, [subtree(0, MAX - 1, MAX, 0, [], form=1)]), 2), (2, 1)),
     "kind_11_at_the_end": (of(root(3, [leaf(span(0, 0, 1) + bytes([7 + 8 * 11]))]), 2), (2, 1)),
+    "bits_without_length": (listed((span(0, 5, 3) + b"\x20\0\0", 0)), (2, 1)),
+    "length_without_bits": (listed((span(0, 5, 300) + b"\0\0\0", 0)), (2, 1)),
+    "length_255_bit_5": (listed((span(0, 5, 255) + b"\x20\0\0", 0)), (2, 1)),
+    "length_256_no_bits": (listed((span(0, 5, 256) + b"\0\0\0", 0)), (2, 1)),
+    "length_2048": (listed((span(0, 5, 2048) + b"\0\0\0", 0)), (2, 1)),
+    "length_2048_all_bits": (listed((span(0, 5, 2048) + b"\xe0\0\0", 0)), (2, 1)),
+    "bits_before_8": (listed((span(5, 5, 3) + b"\x20\0\0", 0)), (2, 1)),
     # 3
     "root_count_1": (of(root(3, [PLUS, PLUS], count=1), 3), (3, 0)),
     "passes_the_end": (of(root(3, [(subtree(0, 0, 1, 0, [])[0][:5] + b"\x02\x00", 0), PLUS]), 3), (3, 1)),
@@ -124,6 +133,7 @@ CASES = {
     "no_bytes": (of(b"", 1, part_count=2), (7, 0)),
     "tree_cut": (of(BOTH[:-1], 2), (7, 1)),
     "tree_due": (of(BOTH, 3), (7, 2)),
+    "cut_and_other_bits": (of(root(3, [leaf(span(0, 5, 3) + b"\x20\0")]), 2), (7, 1)),
     "cut_and_out_of_range": (of(root(3, [leaf(span(0, MAX, MAX, 1, 12))]), 2), (7, 1)),
     "cut_counts_before_3": (of(root(3, [PLUS, PLUS], count=9)[:-1], 3), (7, 2)),
     # 8
@@ -144,7 +154,7 @@ CASES = {
 LOOSE = {
     "worked": 0, "lone_root": 0, "long_forms": 2, "most_trees": 0, "loose_in_8": 1, "loose_in_12": 1, "loose_by_8_in_12": 1, "loose_sorts": 7,
     "loose_open_of_101": 1, "loose_close_of_101": 1, "loose_both_of_101": 2, "loose_close_extra_bits": 1, "distance_300_in_8": 0,
-    "distance_300_in_12": 1, "distance_255_in_8": 1, "limits_of_4": 1, "limits_of_8": 1, "root_loose": 0, "root_not_loose": 0,
+    "distance_300_in_12": 1, "distance_256": 0, "distance_2047": 0, "distance_255_in_8": 1, "limits_of_4": 1, "limits_of_8": 1, "root_loose": 0, "root_not_loose": 0,
     "loose_symbols_and_forms": 0, "most_loose": 7272,
 }
 

@@ -68,7 +68,8 @@ fn around(subtree: &[u8]) -> Stored {
     Stored { trees: 2, parts: [&[7, 0, 0], &empty.parts[..]].concat(), symbols: vec![], bytes }
 }
 
-/// In form 000 the distance is the stored length OR the control bits * 256: the source's bytes can be more than these.
+/// Form 000 with every value of control bits 5 to 7 beside the stored lengths 3, 259, 1795, 2048 and 1283: the source reads them all, by OR, and
+/// here those whose bits are not the length / 256 are 2.
 fn distances(text: &mut Text, tally: &mut Tally) {
     let lengths: [&[u8]; 5] = [
         b"\xC0\x80\x02\0", b"\xC0\xC0\x02\0\0\x10\0\0", b"\xC0\xC0\x02\0\0\x70\0\0", b"\0\xC0\x02\0\0\x80\0\0",

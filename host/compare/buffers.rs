@@ -1,5 +1,6 @@
 //! Stored buffers: the writer's, loose ones in forms that the writer would not choose, and damaged ones.
 use crate::maker::{Maker, loose};
+use crate::plain::{Distance, read_span};
 use crate::plain_buffer::{Buffer, Seen};
 use crate::plain_list;
 use crate::proved::{self, Lent};
@@ -83,9 +84,30 @@ pub fn stored(seed: u64) -> (Random, Stored) {
     (m.r, s)
 }
 
+/// Numbers of the trees in 000 and places of their control bytes, as far as the trees can be read, their distance by OR.
+pub fn brackets(s: &Stored) -> Vec<(u64, usize)> {
+    let (buffer, mut at, mut all) = (s.plain(), 0, vec![]);
+    for n in 0..s.trees.into() {
+        if let Ok(([.., 0, _], control)) = read_span(&s.bytes, at as usize) {
+            all.extend(s.bytes.get(control).filter(|&c| c % 8 == 0).map(|_| (n, control)));
+        }
+        let Ok(read) = buffer.read_by(Distance::Or, n, at) else { break };
+        at = read.next;
+    }
+    all
+}
+
+/// A subtree in 000 has other distance bits, if there is one.
+pub fn other_bits(r: &mut Random, s: &mut Stored) {
+    let all = brackets(s);
+    if !all.is_empty() {
+        s.bytes[r.pick(&all).1] ^= 32 * (1 + r.below(7) as u8);
+    }
+}
+
 pub fn damage(r: &mut Random, s: &mut Stored) {
     let place = r.below(s.bytes.len().max(1) as u64) as usize;
-    match r.below(10) {
+    match r.below(12) {
         0..3 if !s.bytes.is_empty() => s.bytes[place] ^= 1 << r.below(8),
         3 if !s.bytes.is_empty() => s.bytes[place] = r.next() as u8,
         4 => s.bytes.truncate(place),
@@ -99,7 +121,8 @@ pub fn damage(r: &mut Random, s: &mut Stored) {
         9 => {
             s.symbols.pop();
         }
-        // one tree's bytes stand twice, or are gone
+        10 => other_bits(r, s),
+        // some bytes are gone
         _ => {
             let to = (place + r.below(12) as usize).min(s.bytes.len());
             s.bytes.drain(place.min(to)..to);

@@ -1,8 +1,9 @@
-//! The proved functions beside the unmodified source and, where that has no answer, beside a plain second implementation.
+//! The proved functions beside the unmodified source and, where that has no answer or another one, beside a plain second implementation.
 mod buffers;
 mod builders;
 mod builders_random;
 mod cursors;
+mod distances;
 mod forms;
 mod lists;
 mod machine;
@@ -38,7 +39,7 @@ fn main() {
     let many: u64 = std::env::args().nth(1).map_or(1, |x| x.parse().expect("how many times the usual number"));
     // all parts are run, unless a word is given that their names must hold
     let word = std::env::args().nth(2).unwrap_or_default();
-    let parts: [(&str, &dyn Fn(&mut Tally)); 35] = [
+    let parts: [(&str, &dyn Fn(&mut Tally)); 37] = [
         ("spans and symbols written", &|t| pack::write(t)),
         ("lists of spans packed, both packers", &|t| packers::lists(t, 1_000_000 * many)),
         ("spans and symbols read", &|t| pack::read(t)),
@@ -53,6 +54,9 @@ fn main() {
         ("damaged lists", &|t| lists::damaged(t, 40_000 * many)),
         ("largest lists, stack of 1 MB", &|t| stack::run(t)),
         ("buffers checked", &|t| buffers::check(t, 40_000 * many)),
+        ("distance bits, one tree", &|t| distances::trees(t)),
+        ("distance bits, whole buffers beside the reading by OR", &|t| distances::buffers(t, 40_000 * many)),
+        ("distance bits, every other value in the writer's buffers", &|t| distances::every_bit(t, 1_000 * many)),
         ("spans of lists written and widened", &|t| widened::run(t, 20_000 * many)),
         ("walks", &|t| walks::run(t, 40_000 * many)),
         ("cursors", &|t| cursors::run(t, 40_000 * many)),
@@ -69,7 +73,6 @@ fn main() {
         ("tidied, two buffers", &|t| tidy::pairs(t, 20_000 * many)),
         ("tidied, every length of a lent run", &|t| tidy::every_length(t)),
         ("tidied at the limits of sizes", &|t| tidy::limits(t)),
-        ("tidied and longer", &|t| tidy::longer(t)),
         ("builders, every script of few steps", &|t| builders::every_script(t, if many < 10 { 6 } else { 7 })),
         ("builders, random scripts", &|t| builders_random::scripts(t, 100_000 * many)),
         ("builders, invented", &|t| builders_random::invented_builders(t, 100_000 * many)),

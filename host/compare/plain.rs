@@ -1,5 +1,5 @@
-//! The scope paper's format for one tree, written down a second time without regard to speed: what the proved functions are held to
-//! where the source gives no answer.
+//! The scope paper's format for one tree, with what document 02 says of distance bits, written down a second time without regard to speed: what
+//! the proved functions are held to where the source gives no answer, or another one.
 
 #[derive(Clone, Copy, Debug, PartialEq, Eq)]
 pub struct Span {
@@ -32,6 +32,15 @@ pub struct Read {
 }
 
 // ---- reading
+
+/// How the distance of a subtree in 000 is read.
+#[derive(Clone, Copy, PartialEq, Eq)]
+pub enum Distance {
+    /// It is the stored length; control bits 5 to 7 have to repeat it / 256, else refusal 2.
+    Repeated,
+    /// The stored length OR those bits * 256, as the source does.
+    Or,
+}
 
 struct Bytes<'a> {
     bytes: &'a [u8],
@@ -81,8 +90,8 @@ impl Bytes<'_> {
         }
         Ok((index, first % 2))
     }
-    /// A tree, its children bytes and its report; no field judged but a long literal's kind.
-    fn tree(&mut self) -> Result<(Tree, u64, Report), u64> {
+    /// A tree, its children bytes and its report; no field judged but a long literal's kind and the distance bits.
+    fn tree(&mut self, by: Distance) -> Result<(Tree, u64, Report), u64> {
         let (extra, span, loose) = self.span()?;
         let leaf = [loose, 0, loose];
         if extra % 2 == 1 {
@@ -98,9 +107,14 @@ impl Bytes<'_> {
         let moved = |open: Span, index: u64, distance: u64| Span { index, start: open.start + distance, len: open.len };
         Ok(match control % 8 {
             0 => {
+                let (count, children) = (self.number(1)?, self.number(1)?);
+                let distance = match by {
+                    Distance::Repeated if control / 32 != span.len / 256 => return Err(2),
+                    Distance::Repeated => span.len,
+                    Distance::Or => span.len | (control / 32 * 256),
+                };
                 let open = Span { len: 1, ..span };
-                let close = moved(open, span.index, span.len | (control / 32 * 256));
-                (Tree::Subtree { open, close, count: self.number(1)?, kind: delimiter }, self.number(1)?, [loose; 3])
+                (Tree::Subtree { open, close: moved(open, span.index, distance), count, kind: delimiter }, children, [loose; 3])
             }
             1 => {
                 let close = moved(span, span.index, control / 32);
@@ -168,8 +182,12 @@ pub fn read_span(bytes: &[u8], at: usize) -> Result<([u32; 5], usize), u64> {
 
 /// Tree number n at a place, or 7, 2 or 8.
 pub fn read(bytes: &[u8], at: usize, n: u64, parts: u64, symbols: u64) -> Result<Read, u64> {
+    read_by(Distance::Repeated, bytes, at, n, parts, symbols)
+}
+
+pub fn read_by(by: Distance, bytes: &[u8], at: usize, n: u64, parts: u64, symbols: u64) -> Result<Read, u64> {
     let mut from = Bytes { bytes, at };
-    let (tree, children, report) = from.tree()?;
+    let (tree, children, report) = from.tree(by)?;
     if !in_range(&tree) || (n == 0 && from.at != at + 33) {
         return Err(2);
     }

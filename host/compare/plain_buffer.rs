@@ -1,5 +1,5 @@
 //! The scope paper's check, walk and cursor over a stored buffer, a second time, without regard to speed.
-use crate::plain::{self, Read, Tree};
+use crate::plain::{self, Distance, Read, Tree};
 use crate::plain_list::{Refusal, TREES, nest};
 
 /// A stored buffer with its stated tree count and its tables.
@@ -56,7 +56,11 @@ impl Buffer<'_> {
     }
 
     pub fn read(&self, n: u64, at: u64) -> Result<Read, u64> {
-        plain::read(self.bytes, at as usize, n, (self.part_words.len() / 3) as u64, self.symbols.len() as u64)
+        self.read_by(Distance::Repeated, n, at)
+    }
+
+    pub fn read_by(&self, by: Distance, n: u64, at: u64) -> Result<Read, u64> {
+        plain::read_by(by, self.bytes, at as usize, n, (self.part_words.len() / 3) as u64, self.symbols.len() as u64)
     }
 
     fn seen(&self, read: &Read) -> Seen {
@@ -68,12 +72,16 @@ impl Buffer<'_> {
     }
 
     pub fn check(&self) -> Result<(), Refusal> {
+        self.check_by(Distance::Repeated)
+    }
+
+    pub fn check_by(&self, by: Distance) -> Result<(), Refusal> {
         if !self.sized() {
             return Err((1, 0));
         }
         let (mut trees, mut places, mut children) = (Vec::new(), vec![0], Vec::new());
         for n in 0..self.trees {
-            let read = self.read(n, places[n as usize]).map_err(|r| (r, n))?;
+            let read = self.read_by(by, n, places[n as usize]).map_err(|r| (r, n))?;
             trees.push(read.tree);
             places.push(read.next);
             children.push(read.children);

@@ -351,25 +351,3 @@ fn tables_about_bounds(tally: &mut Tally, r: &mut Random) {
         }
     }
 }
-
-// ---- longer in order
-
-/// 000 whose stored length and control bits disagree, and one whose distance the writer's 000 does not hold: the writer's bytes are more.
-pub fn longer(tally: &mut Tally) {
-    let mut r = Random::new(43);
-    let trees: [(&[u8], u32, usize); 2] = [
-        (&[0xC0, 0x80, 0x02, 0x00, 0x20, 0x00, 0x00], 264, 11),
-        (&[0x00, 0xC0, 0x02, 0x00, 0x00, 0x80, 0x00, 0x00, 0x00, 0x00, 0x00], 5 + 2048, 17),
-    ];
-    for (tree, close, bytes) in trees {
-        let mut stored = around(&[[3, 0, 0, 1, 0, 0, 5, 1, 1, 0, 0, close, 1]]);
-        assert_eq!(stored.bytes.len(), 33 + bytes);
-        // the root's children bytes
-        stored.bytes[29] = tree.len() as u8;
-        stored.bytes.splice(33.., tree.iter().copied());
-        let given = Given::of(format!("{tree:02x?}"), stored);
-        let longer = given.want.as_ref().is_ok_and(|want| want.list[13 + 11] == close && want.bytes.len() == 33 + bytes);
-        tally.case(longer, || format!("{tree:02x?} is not {bytes} bytes in order"));
-        given.hold(tally, &mut r);
-    }
-}

@@ -12,9 +12,9 @@ use crate::words;
 use tt::TopSubtree;
 
 /// Part and start of the opening span, part and start of the closing one, length: all forms hold it; 000 with control bits, and 101; 010 and
-/// 101; 000 with a stored length past 2047, and 101.
+/// 101; 000 with its longest distance, in twelve bytes, and 101.
 const SUBTREES: [([u32; 3], u32, [u32; 3], u32, u32); 4] =
-    [(A, 20, A, 22, 1), (A, 5, A, 264, 1), (B, 20, A, 30, 4), (C, 1 << 28, C, (1 << 28) + 0x902, 1)];
+    [(A, 20, A, 22, 1), (A, 5, A, 264, 1), (B, 20, A, 30, 4), (C, 1 << 28, C, (1 << 28) + 2047, 1)];
 
 /// In how many ways the trees of a forest can be chosen.
 fn choices(forest: &[Option<usize>]) -> usize {

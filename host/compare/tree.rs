@@ -170,6 +170,19 @@ pub fn tables(parts: u32) -> Tables {
 }
 
 impl Tables {
+    pub fn part_words(&self) -> &[u32] {
+        &self.part_words
+    }
+
+    pub fn symbols(&self) -> &[u32] {
+        &self.symbols
+    }
+
+    /// The source's buffer.
+    pub fn source(&self) -> &TopSubtree {
+        &self.top
+    }
+
     /// The tree that the source reads.
     pub fn put(&mut self, tree: &[u8]) {
         self.top.set_bytes(&[tree, &[0; 64]].concat());

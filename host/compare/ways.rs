@@ -1,7 +1,7 @@
 //! Every way of writing a tree that the check admits: each number of bytes of its spans and its symbol, each form, the bits that nobody looks
 //! at, and each place of an entry that stands more than once.
 use crate::maker::loose;
-use crate::plain::{self, Loose, Span, Tree, span_bytes};
+use crate::plain::{self, Loose, Span, Tree};
 use crate::random::Random;
 use std::collections::{BTreeSet, HashMap};
 use std::hash::Hash;
@@ -31,24 +31,8 @@ fn choices(tree: &Tree) -> Vec<Loose> {
     all
 }
 
-/// 000 with every stored length and control bits that together give the distance, which the check does not bound.
-fn brackets(tree: &Tree, children: u64) -> Vec<Vec<u8>> {
-    let Tree::Subtree { open, close, count, kind } = *tree else { return vec![] };
-    let fits = count < 256 && children < 256 && open.index == close.index && [open.len, close.len] == [1, 1];
-    let Some(distance) = close.start.checked_sub(open.start).filter(|_| fits) else { return vec![] };
-    let mut all = Vec::new();
-    for (stored, bits) in pairs(&[0, 1, 2, 3, 4, 5, 6, 7], &[0, 1, 2, 3, 4, 5, 6, 7]) {
-        let len = distance & !0x700 | stored << 8;
-        if len | bits << 8 == distance {
-            let tail = [8 * kind + 32 * bits, count, children].map(|b| b as u8);
-            all.extend([4, 8, 12].map(|size| [&span_bytes(0, Span { len, ..open }, size), &tail[..]].concat()));
-        }
-    }
-    all
-}
-
 fn written(tree: &Tree, children: u64) -> BTreeSet<Vec<u8>> {
-    choices(tree).into_iter().map(|how| plain::write(tree, children, how)).chain(brackets(tree, children)).collect()
+    choices(tree).into_iter().map(|how| plain::write(tree, children, how)).collect()
 }
 
 /// The root's only choice is the extra bits of its close span.
@@ -124,11 +108,7 @@ impl Ways {
                 }
             }
         }
-        let mut brackets = brackets(&tree, children);
-        if brackets.is_empty() || r.one_in(2) {
-            return plain::write(&tree, children, loose(r));
-        }
-        brackets.swap_remove(r.below(brackets.len() as u64) as usize)
+        plain::write(&tree, children, loose(r))
     }
 }
 

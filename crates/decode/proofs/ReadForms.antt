@@ -10,7 +10,7 @@ use Rattle.format.specs.Word.{byteAt, halfAt, wordAt}
 use Rattle.format.specs.Span.{Span, span, spanAt, symbol, symbolAt}
 use Rattle.format.specs.Span as format
 use Rattle.format.specs.Reader.{got}
-use Rattle.format.specs.Tree.{Raw, punct, subtree, identOf, literalOf, moved, distance, shortKind, shortRaw, form000, form001, form010, closed101, form110, formShort, form111, controlled, afterSpan, treeAt, isRawKind}
+use Rattle.format.specs.Tree.{Raw, punct, subtree, identOf, literalOf, bitsAgree, moved, shortKind, shortRaw, form000, form001, form010, closed101, form110, formShort, form111, controlled, afterSpan, treeAt, isRawKind}
 use Rattle.format.specs.Fields.{fields}
 use Rattle.pack.specs.Answer.{spanOf, spanAnswer, symbolAnswer}
 use Rattle.pack.specs.declared.span.PackedSpan.{PackedSpan}
@@ -72,12 +72,23 @@ module _ (b : List ℕ) (q c : ℕ) (s : PackedSpan) where
     unfolding rawAnswer inRange
     cut-001 = let g : length b < q + 3 = omega arith in simp (lt-leb _ _ g)
 
-  module _ (h : 3 ≤ length b - q) (n m : ℕ) (e : n ≡ byteAt b (q + 1)) (f : m ≡ byteAt b (q + 2)) (r : RawRead) where
-    pub got-000 : (d : ℕ) → d ≡ distance (s .len) c
-        → r ≡ rawAnswer (inRange (got (subtree (record { index = s .index; start = s .start; len = 1 }) (record { index = s .index; start = s .start + d; len = 1 }) n (c / 8 % 4)) (q + 3) m))
-        → r ≡ rawAnswer (inRange (form000 b (spanOf s) q c))
-    got-000 d k p = p ∙ let g : q + 3 ≤ length b = omega arith in simp (le-leb _ _ g, ← e, ← f, k)
+  module _ (h : 3 ≤ length b - q) (y : Bool) (k : y ≡ bitsAgree (spanOf s) c) where
+    pub bits-000 : not y ≡ true → Bad 2 ≡ rawAnswer (inRange (form000 b (spanOf s) q c))
+    unfolding rawAnswer inRange
+    bits-000 f =
+        let g : q + 3 ≤ length b = omega arith in
+        let d : bitsAgree (spanOf s) c ≡ false = sym k ∙ not-true y f in
+        simp (le-leb _ _ g, d)
 
+    pub got-000 : not y ≡ false → (n m : ℕ) → n ≡ byteAt b (q + 1) → m ≡ byteAt b (q + 2) → (r : RawRead)
+        → r ≡ rawAnswer (inRange (got (subtree (record { index = s .index; start = s .start; len = 1 }) (record { index = s .index; start = s .start + s .len; len = 1 }) n (c / 8 % 4)) (q + 3) m))
+        → r ≡ rawAnswer (inRange (form000 b (spanOf s) q c))
+    got-000 i n m e f r p =
+        let g : q + 3 ≤ length b = omega arith in
+        let d : bitsAgree (spanOf s) c ≡ true = sym k ∙ not-false y i in
+        p ∙ simp (le-leb _ _ g, d, ← e, ← f)
+
+  module _ (h : 3 ≤ length b - q) (n m : ℕ) (e : n ≡ byteAt b (q + 1)) (f : m ≡ byteAt b (q + 2)) (r : RawRead) where
     pub got-001 : r ≡ rawAnswer (inRange (got (subtree (spanOf s) (moved (spanOf s) (s .index) (c / 32)) n (c / 8 % 4)) (q + 3) m))
         → r ≡ rawAnswer (inRange (form001 b (spanOf s) q c))
     got-001 p = p ∙ let g : q + 3 ≤ length b = omega arith in simp (le-leb _ _ g, ← e, ← f)
@@ -290,7 +301,7 @@ module _ (b : List ℕ) (at : ℕ) (r : SpanRead) (e : r ≡ spanAnswer (spanAt 
 
 pub ruleset on-cases = (on-over, on-got)
 
-pub ruleset form-cases = (cut-000, cut-001, got-000, got-001, cut-010, cut-110, got-010, got-110, cut-close, cut-101, got-101, span-inside)
+pub ruleset form-cases = (cut-000, cut-001, bits-000, got-000, got-001, cut-010, cut-110, got-010, got-110, cut-close, cut-101, got-101, span-inside)
 
 pub ruleset literal-cases = (cut-literal, cut-ident, got-literal, got-ident, short-3, short-12, short-else, short-11, short-0, got-short, early-2, cut-2, got-111, cut-3, got-raw)
 

@@ -23,7 +23,7 @@ ghost use Prim.Native.Nat.{_+_, _*_, _/_, _%_, _≤_, _<_};
 ghost use lib.ListN.{length};
 ghost use Rattle.format.specs.Reader.{got};
 ghost use Rattle.format.specs.Span.{spanAt, symbolAt};
-ghost use Rattle.format.specs.Tree.{punct, literal, subtree, identOf, literalOf, moved, distance, shortKind, shortRaw};
+ghost use Rattle.format.specs.Tree.{punct, literal, subtree, identOf, literalOf, bitsAgree, moved, shortKind, shortRaw};
 ghost use Rattle.format.specs.Tree.{form000, form001, form010, closed101, form110, formShort, form111};
 ghost use Rattle.format.specs.Tree.{controlled, treeAt};
 ghost use Rattle.pack.specs.Answer.{spanOf};
@@ -79,21 +79,23 @@ fn subtree_on(
     in_range(RawTree::Subtree(tree), next, children)
 }
 
-// The stored length is the distance, whose high bits the control byte repeats.
-fn distance_000(len: u32, control: u32) -> u32
-    requires { ⌜ control < 256 ⌝ }
-    ensures { λ r. ⌜ r ≡ distance len control ⌝ }
+// Whether the control byte of a 000 repeats the upper bits of the stored length.
+fn bits_agree(span: PackedSpan, control: u32) -> bool
+    ensures { λ r. ⌜ r ≡ bitsAgree (spanOf span) control ⌝ }
 {
-    len | control / 32 * 256
+    control / 32 == span.len / 256
 }
 
-// Both lengths are 1.
+// Both lengths are 1, and the stored length is the distance.
 fn form_000(b: &[u8], at: usize, control: u32, span: PackedSpan) -> RawRead
     requires { ⌜ (at + 1 ≤ length (now b)) × (control < 256) ⌝ }
     ensures { λ r. ⌜ r ≡ rawAnswer (inRange (form000 (now (b .entry)) (spanOf span) at control)) ⌝ }
 {
     if b.len() - at < 3 {
         return RawRead::Bad(7);
+    }
+    if !bits_agree(span, control) {
+        return RawRead::Bad(2);
     }
     let count = byte_at(b, at + 1);
     let bytes = byte_at(b, at + 2);
@@ -105,7 +107,7 @@ fn form_000(b: &[u8], at: usize, control: u32, span: PackedSpan) -> RawRead
     subtree_on(
         opening,
         span.index,
-        distance_000(span.len, control),
+        span.len,
         Descendants(count),
         control / 8 % 4,
         at + 3,

@@ -11,14 +11,14 @@ use Rattle.format.specs.Test.{if_then_else_}
 use Rattle.format.specs.Word.{byteAt, halfBytes, wordBytes}
 use Rattle.format.specs.Span.{Span, SpanRead, span, spanAt, SymbolRead, symbol, symbolAt}
 use Rattle.format.specs.Reader.{Reply, got, bad}
-use Rattle.format.specs.Tree.{Raw, punct, ident, literal, subtree, isSubtree, isRawKind, need, identOf, literalOf, closed101, form111, controlled, afterSpan, treeAt}
+use Rattle.format.specs.Tree.{Raw, punct, ident, literal, subtree, isSubtree, isRawKind, bitsAgree, need, identOf, literalOf, closed101, form111, controlled, afterSpan, treeAt}
 use Rattle.format.specs.Write.{join, spanBytes, symbolBytes, shortBase, literalBytes, apart, near, fits000, fits001, fits010, bytes000, bytes101, subtreeBytes, treeBytes}
 use Rattle.format.specs.Loose.{Loose, isLoose, looseRead, looseLeaf, looseShared, looseBoth, looseBy, looseAfter, looseAt}
 use Rattle.format.proofs.Each.{and-right, true-false}
 use Rattle.format.proofs.Holds.{Holds, holds-first, holds-rest, holds-at}
 use Rattle.format.proofs.SpanBack.{Packable, span-back}
 use Rattle.format.proofs.TreeBack.{Writable, near-true, tree-back}
-use Rattle.format.proofs.TreeBounds.{Ended, tree-ended}
+use Rattle.format.proofs.TreeBounds.{choice, Ended, tree-ended}
 use Rattle.format.proofs.RootForm.{heavyAt, heavy-span, root-form}
 use Rattle.format.proofs.LooseLaw.{span-tight}
 
@@ -71,7 +71,7 @@ module _ (b : List ℕ) where
   unfolding controlled
   sort-controlled s q c =
       low-bits (λ m. c % 8 ≡ m → Sort (subForm c) (controlled b s q c))
-      (λ z. simp z (sort-need true (q + 3) (got _ _ _) refl))
+      (λ z. simp z (sort-need true (q + 3) _ (choice (Sort true) (bitsAgree s c) (got _ _ _) (bad 2) refl tt)))
       (λ z. simp z (sort-need true (q + 3) (got _ _ _) refl))
       (λ z. simp z (sort-need true (q + 5) (got _ _ _) refl))
       (λ z. simp z (sort-literal s _ _ _ (symbolAt b (q + 1))))

@@ -11,7 +11,7 @@ use Rattle.format.specs.Buffer.{wordShape, ownReader, bufferCheck}
 use Rattle.format.proofs.NestLaw.{Why, passes-other, passes-list, deep}
 use Rattle.format.proofs.CheckRefusal.{Refused, size, tree, left, root, nesting, count}
 use Rattle.format.proofs.Unread.{Cut}
-use Rattle.format.proofs.TreeRefusal.{OwnRow, cut, early, form, field, index, own-row, row-own, own-refusal, refusal-own}
+use Rattle.format.proofs.TreeRefusal.{OwnRow, cut, early, bits, form, field, index, own-row, row-own, own-refusal, refusal-own}
 
 module _ (b : List ℕ) (k : ℕ) (parts symbols : List ℕ) where
   abbrev R : Reader (List ℕ)
@@ -30,6 +30,7 @@ module _ (b : List ℕ) (k : ℕ) (parts symbols : List ℕ) where
       row : (n r : ℕ) → OwnRow b k parts symbols n r → r ≡ 7 → Cut b (placeOf wordShape R n)
       row n r (cut h) e = h
       row n r (early h) e = absurd (omega arith)
+      row n r (bits h) e = absurd (omega arith)
       row n r (form t q k e′ f) e = absurd (omega arith)
       row n r (field t q k e′ f g) e = absurd (omega arith)
       row n r (index t q k e′ f g h) e = absurd (omega arith)

@@ -9,7 +9,7 @@ use lib.ListN.{take, drop, replicate}
 use Rattle.format.specs.Verdict.{passed, refused, wrote, refusal, eachFrom}
 use Rattle.format.specs.Word.{wordAt, halfAt, put}
 use Rattle.format.specs.Span.{span, spanAt, symbolAt}
-use Rattle.format.specs.Reader.{got}
+use Rattle.format.specs.Reader.{got, bad}
 use Rattle.format.specs.Plain.{Listing, endOf}
 use Rattle.format.specs.Nest.{nestFrom, nest, stillOpen}
 use Rattle.format.proofs.NestRun.{run, run-done, run-four, run-sub, nest-as-run}
@@ -22,7 +22,7 @@ use Rattle.format.specs.WordList.{rawFrom, listRules}
 use Rattle.format.specs.Writer.{find, raws, listVerdict, writerVerdict, writerReport, workAfter, outAfter}
 use Rattle.format.specs.Pack.{packSpan, packSymbol, spanPacked, spanReport, symbolReport}
 use Rattle.format.proofs.Tally.{lt-or-le}
-use Rattle.format.proofs.Unread.{Cut, zeros-bytes}
+use Rattle.format.proofs.Unread.{Cut, reads, disagrees, zeros-bytes}
 use Rattle.format.proofs.Worked.{spanOf, loneRoot, twoParts, rootWords, plus, parens}
 use Rattle.format.proofs.Samples.{threeParts}
 
@@ -124,10 +124,20 @@ root-cut =
     record {
       more = drop 20 loneRoot;
       bytes = zeros-bytes 13;
-      tree = subtree (spanOf 0 0 0) (spanOf 1 0 0) 0 3;
       next = 33;
-      kids = 0;
-      reads = refl;
+      whole = reads (subtree (spanOf 0 0 0) (spanOf 1 0 0) 0 3) 0 refl;
+      passes = omega arith;
+    }
+
+-- a 000 whose bits disagree, without its last byte: with any byte there it is not read either, but its bytes are
+bits-cut : Cut (0xC0 ∷ 0x80 ∷ 2 ∷ 0 ∷ 0x20 ∷ 0 ∷ []) 0
+unfolding spanAt wordAt
+bits-cut =
+    record {
+      more = 0 ∷ [];
+      bytes = zeros-bytes 1;
+      next = 7;
+      whole = disagrees (record { opening = spanOf 0 5 3; place = 4; stands = record { plain = refl; room = omega arith; form = refl }; bits = λ e. absurd (omega arith) }) refl;
       passes = omega arith;
     }
 
@@ -137,6 +147,17 @@ row-2-read : (bufferCheck (around 5 ++ (0 ∷ 0 ∷ 0 ∷ 0 ∷ 0x5F ∷ [])) 2 
     × (bufferCheck (around 5 ++ (0x43 ∷ 0 ∷ 5 ∷ 0 ∷ 0x57 ∷ [])) 2 threeParts [] ≡ refused 2 1)
 unfolding check eachFrom placeOf ownReader judge treeWords treeAt afterSpan controlled spanAt symbolAt wordAt
 row-2-read = (refl, refl, refl, refl)
+
+-- 2 for control bits of a 000: stored length 3 beside bit 5; 2048, which no bits tell; 3 beside none passes. Cut off it is 7 first; naming a part of the root's it is 8
+-- only where the bits agree
+row-2-bits : (bufferCheck (around 7 ++ (0xC0 ∷ 0x80 ∷ 2 ∷ 0 ∷ 0x20 ∷ 0 ∷ 0 ∷ [])) 2 threeParts [] ≡ refused 2 1)
+    × (bufferCheck (around 11 ++ (0 ∷ 0xC0 ∷ 2 ∷ 0 ∷ 0 ∷ 0x80 ∷ 0 ∷ 0 ∷ 0 ∷ 0 ∷ 0 ∷ [])) 2 threeParts [] ≡ refused 2 1)
+    × (bufferCheck (around 7 ++ (0xC0 ∷ 0x80 ∷ 2 ∷ 0 ∷ 0 ∷ 0 ∷ 0 ∷ [])) 2 threeParts [] ≡ passed)
+    × (bufferCheck (around 6 ++ (0xC0 ∷ 0x80 ∷ 2 ∷ 0 ∷ 0x20 ∷ 0 ∷ [])) 2 threeParts [] ≡ refused 7 1)
+    × (bufferCheck (around 7 ++ (0xC4 ∷ 0x80 ∷ 2 ∷ 0 ∷ 0x20 ∷ 0 ∷ 0 ∷ [])) 2 threeParts [] ≡ refused 2 1)
+    × (bufferCheck (around 7 ++ (0xC4 ∷ 0x80 ∷ 2 ∷ 0 ∷ 0 ∷ 0 ∷ 0 ∷ [])) 2 threeParts [] ≡ refused 8 1)
+unfolding check eachFrom placeOf nestFrom stillOpen ownReader judge treeWords treeAt afterSpan controlled spanAt wordAt
+row-2-bits = (refl, refl, refl, refl, refl, refl)
 
 -- 8: "part 5 of 3"; a descendant that uses one of the last two; a root that does not use them
 row-8 : (bufferCheck (around 5 ++ (0x55 ∷ 0 ∷ 5 ∷ 0 ∷ 0x56 ∷ [])) 2 threeParts [] ≡ refused 8 1) × (bufferCheck (around 5 ++ (0x45 ∷ 0 ∷ 5 ∷ 0 ∷ 0x56 ∷ [])) 2 threeParts [] ≡ refused 8 1)
@@ -164,8 +185,16 @@ reports : (spanReport (replicate 9 0) 1 false 0 (spanOf 16 0 0) ≡ wrote 8) × 
 unfolding spanBytes heavyBytes symbolBytes put listVerdict listRules eachFrom nestFrom stillOpen rawFrom find raws suffixes treeBytes rootBytes
 reports = (refl, refl, refl, refl, refl, refl)
 
--- "In 000 the distance is the span's length OR the control bits × 256": 3 OR 256; 300 OR 256
-distances : (treeAt (0xC0 ∷ 0x80 ∷ 2 ∷ 0 ∷ 0x20 ∷ 0 ∷ 0 ∷ []) 0 ≡ got (subtree (spanOf 0 5 1) (spanOf 0 264 1) 0 0) 7 0)
+-- 000: the stored length is the distance where control bits 5 to 7 repeat it / 256. 255 and 256, 300 and 2047 with their bits; 255 with bit 5; 256 and 300 with none; 300
+-- with bits 5 and 6; 2048 with bits 5 to 7
+distances : (treeAt (0xC0 ∷ 0xBF ∷ 2 ∷ 0 ∷ 0x00 ∷ 0 ∷ 0 ∷ []) 0 ≡ got (subtree (spanOf 0 5 1) (spanOf 0 260 1) 0 0) 7 0)
+    × (treeAt (0x00 ∷ 0xC0 ∷ 2 ∷ 0 ∷ 0 ∷ 0x10 ∷ 0 ∷ 0 ∷ 0x20 ∷ 0 ∷ 0 ∷ []) 0 ≡ got (subtree (spanOf 0 5 1) (spanOf 0 261 1) 0 0) 11 0)
     × (treeAt (0x00 ∷ 0xCB ∷ 2 ∷ 0 ∷ 0 ∷ 0x10 ∷ 0 ∷ 0 ∷ 0x20 ∷ 0 ∷ 0 ∷ []) 0 ≡ got (subtree (spanOf 0 5 1) (spanOf 0 305 1) 0 0) 11 0)
+    × (treeAt (0xC0 ∷ 0xFF ∷ 2 ∷ 0 ∷ 0 ∷ 0x70 ∷ 0 ∷ 0 ∷ 0xE0 ∷ 0 ∷ 0 ∷ []) 0 ≡ got (subtree (spanOf 0 5 1) (spanOf 0 2052 1) 0 0) 11 0)
+    × (treeAt (0xC0 ∷ 0xBF ∷ 2 ∷ 0 ∷ 0x20 ∷ 0 ∷ 0 ∷ []) 0 ≡ bad 2)
+    × (treeAt (0x00 ∷ 0xC0 ∷ 2 ∷ 0 ∷ 0 ∷ 0x10 ∷ 0 ∷ 0 ∷ 0x00 ∷ 0 ∷ 0 ∷ []) 0 ≡ bad 2)
+    × (treeAt (0x00 ∷ 0xCB ∷ 2 ∷ 0 ∷ 0 ∷ 0x10 ∷ 0 ∷ 0 ∷ 0x00 ∷ 0 ∷ 0 ∷ []) 0 ≡ bad 2)
+    × (treeAt (0x00 ∷ 0xCB ∷ 2 ∷ 0 ∷ 0 ∷ 0x10 ∷ 0 ∷ 0 ∷ 0x60 ∷ 0 ∷ 0 ∷ []) 0 ≡ bad 2)
+    × (treeAt (0x00 ∷ 0xC0 ∷ 2 ∷ 0 ∷ 0 ∷ 0x80 ∷ 0 ∷ 0 ∷ 0xE0 ∷ 0 ∷ 0 ∷ []) 0 ≡ bad 2)
 unfolding treeAt afterSpan controlled spanAt wordAt
-distances = (refl, refl)
+distances = (refl, refl, refl, refl, refl, refl, refl, refl, refl)

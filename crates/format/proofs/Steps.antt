@@ -4,6 +4,7 @@ use mathlib.Core.Path.{_≡_, refl, ap, _∙_}
 use mathlib.Core.List.{List, [], _∷_, _++_}
 use lib.ListN.{length, getD, take, drop}
 use Rattle.format.specs.Verdict.{Verdict, passed, eachFrom}
+use Rattle.format.specs.Verdict as verdicts
 use Rattle.format.specs.Reader.{Answer, done, none, one, two, refused}
 use Rattle.format.specs.Word.{wordAt, halfAt}
 use Rattle.format.specs.Write.{spanBytes}
@@ -110,6 +111,23 @@ last-refusals : (lastSpan fiveBytes 5 threeParts [] (at 0 0 4) ≡ refused 3 0)
     × (lastSpan fiveBytes 0 threeParts [] (at 0 0 0) ≡ refused 1 0)
 unfolding lastFor walkStep ownReader judge treeWords treeAt afterSpan controlled spanAt wordAt
 last-refusals = (refl, refl, refl, refl, refl)
+
+-- the same bytes with control bit 5 of the empty parentheses flipped: 2 at tree 2 wherever it is read, behind a leaf and in `end` too, and no state moves
+abbrev flipped : List ℕ
+flipped = take 42 fiveBytes ++ (0x20 ∷ drop 43 fiveBytes)
+
+flipped-bit : (bufferCheck flipped 5 threeParts [] ≡ verdicts.refused 2 2)
+    × (walkStep wordShape (ownReader flipped 5 threeParts []) advance (at 38 2 3) ≡ (refused 2 2, at 38 2 3))
+    × (walkStep wordShape (ownReader flipped 5 threeParts []) skip (at 38 2 3) ≡ (refused 2 2, at 38 2 3))
+    × (cursorStep wordShape (ownReader flipped 5 threeParts []) bump (on 2 38 (sub 0 4 0 ∷ [])) ≡ (refused 2 2, on 2 38 (sub 0 4 0 ∷ [])))
+    × (cursorStep wordShape (ownReader flipped 5 threeParts []) tokenTree (on 2 38 (sub 0 4 0 ∷ [])) ≡ (refused 2 2, on 2 38 (sub 0 4 0 ∷ [])))
+    × (cursorStep wordShape (ownReader flipped 5 threeParts []) bumpOrEnd (on 2 38 (sub 0 4 0 ∷ [])) ≡ (refused 2 2, on 2 38 (sub 0 4 0 ∷ [])))
+    × (cursorStep wordShape (ownReader flipped 5 threeParts []) peekTwoLeaves (on 1 33 (sub 0 4 0 ∷ [])) ≡ (refused 2 2, on 1 33 (sub 0 4 0 ∷ [])))
+    × (cursorStep wordShape (ownReader flipped 5 threeParts []) end (on 3 45 (sub 2 0 38 ∷ sub 0 4 0 ∷ [])) ≡ (refused 2 2, on 3 45 (sub 2 0 38 ∷ sub 0 4 0 ∷ [])))
+    × (lastSpan flipped 5 threeParts [] (at 38 2 3) ≡ refused 2 2)
+    × (lastSpan flipped 5 threeParts [] (at 33 1 4) ≡ refused 2 2)
+unfolding check eachFrom placeOf lastFor cursorStep walkStep nestedIn ownReader judge treeWords treeAt afterSpan controlled spanAt wordAt
+flipped-bit = (refl, refl, refl, refl, refl, refl, refl, refl, refl, refl)
 
 -- ---- the lister
 

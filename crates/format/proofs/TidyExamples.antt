@@ -64,13 +64,16 @@ short-work = (refl, refl, refl, refl)
 abbrev over : List ℕ → ℕ → Stored
 over b k = record { bytes = b; trees = k; parts = files (7 ∷ 1 ∷ 2 ∷ []); symbols = [] }
 
--- "the check's own numbers" come first, with nothing lent: a cut tree is 7, an index past the table 8, one of the root's two parts below it too, without a tree 1
+-- "the check's own numbers" come first, with nothing lent: a cut tree is 7, an index past the table 8, one of the root's two parts below it too, without a tree 1,
+-- control bits that disagree with stored length 3 and with 2048 are 2
 check-first : (report (over (around 1 1 7 ++ (0xC0 ∷ 0x80 ∷ 0x02 ∷ 0x00 ∷ 0x00 ∷ 0x00 ∷ [])) 2) 0 0 0 [] ≡ refusal 7 1)
     × (report (over (around 1 1 7 ++ (0xCC ∷ 0x80 ∷ 0x02 ∷ 0x00 ∷ 0x00 ∷ 0x00 ∷ 0x00 ∷ [])) 2) 0 0 0 [] ≡ refusal 8 1)
     × (report (over (around 1 1 7 ++ (0xC4 ∷ 0x80 ∷ 0x02 ∷ 0x00 ∷ 0x00 ∷ 0x00 ∷ 0x00 ∷ [])) 2) 0 0 0 [] ≡ refusal 8 1)
     × (report (over [] 0) 0 0 0 [] ≡ refusal 1 0)
+    × (report (over (around 1 1 7 ++ (0xC0 ∷ 0x80 ∷ 0x02 ∷ 0x00 ∷ 0x20 ∷ 0x00 ∷ 0x00 ∷ [])) 2) 0 0 0 [] ≡ refusal 2 1)
+    × (report (over (around 1 1 11 ++ (0x00 ∷ 0xC0 ∷ 0x02 ∷ 0x00 ∷ 0x00 ∷ 0x80 ∷ 0x00 ∷ 0x00 ∷ 0x00 ∷ 0x00 ∷ 0x00 ∷ [])) 2) 0 0 0 [] ≡ refusal 2 1)
 unfolding report
-check-first = (refl, refl, refl, refl)
+check-first = (refl, refl, refl, refl, refl, refl)
 
 -- parentheses in the form of both spans where one and a distance do: in hex 5 × 8000 + 40 = 28040 and 8 × 8000 + 40 = 40040, then 1 tree of 5 bytes
 abbrev bothSpans : Stored
@@ -126,19 +129,3 @@ rootBits =
 root-bits : (asked rootBits ≡ passed) × (tidy rootBits ≡ around 1 0 0)
 unfolding rootBits asked tidy
 root-bits = (refl, refl)
-
--- ---- the result may be longer: a distance that is read by OR
-
--- stored length 3 and control bit 5 are the distance 259, which takes a span of eight bytes: 7 bytes, then 11
-by-control-bits : (asked (over (around 1 1 7 ++ (0xC0 ∷ 0x80 ∷ 0x02 ∷ 0x00 ∷ 0x20 ∷ 0x00 ∷ 0x00 ∷ [])) 2) ≡ passed)
-    × (tidy (over (around 1 1 7 ++ (0xC0 ∷ 0x80 ∷ 0x02 ∷ 0x00 ∷ 0x20 ∷ 0x00 ∷ 0x00 ∷ [])) 2)
-    ≡ around 1 1 11 ++ (0xC0 ∷ 0xC0 ∷ 0x02 ∷ 0x00 ∷ 0x00 ∷ 0x10 ∷ 0x00 ∷ 0x00 ∷ 0x20 ∷ 0x00 ∷ 0x00 ∷ []))
-unfolding asked tidy
-by-control-bits = (refl, refl)
-
--- the distance 2048, one past the writer's largest: 11 bytes, then 17 with both spans
-by-stored-length : (asked (over (around 1 1 11 ++ (0x00 ∷ 0xC0 ∷ 0x02 ∷ 0x00 ∷ 0x00 ∷ 0x80 ∷ 0x00 ∷ 0x00 ∷ 0x00 ∷ 0x00 ∷ 0x00 ∷ [])) 2) ≡ passed)
-    × (tidy (over (around 1 1 11 ++ (0x00 ∷ 0xC0 ∷ 0x02 ∷ 0x00 ∷ 0x00 ∷ 0x80 ∷ 0x00 ∷ 0x00 ∷ 0x00 ∷ 0x00 ∷ 0x00 ∷ [])) 2)
-    ≡ around 1 1 17 ++ (0x40 ∷ 0x80 ∷ 0x02 ∷ 0x00 ∷ 0x05 ∷ 0x40 ∷ 0x80 ∷ 0x02 ∷ 0x04 ∷ 0 ∷ 0 ∷ 0 ∷ 0 ∷ 0 ∷ 0 ∷ 0 ∷ 0 ∷ []))
-unfolding asked tidy
-by-stored-length = (refl, refl)

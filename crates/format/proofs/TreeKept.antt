@@ -11,7 +11,7 @@ use Rattle.format.specs.Test.{if_then_else_}
 use Rattle.format.specs.Word.{byteAt, halfAt, wordAt}
 use Rattle.format.specs.Span.{Span, SpanRead, span, spanAt, SymbolRead, symbol, symbolAt}
 use Rattle.format.specs.Reader.{Reply, got, bad}
-use Rattle.format.specs.Tree.{Raw, punct, need, identOf, literalOf, closed101, form111, controlled, afterSpan, treeAt}
+use Rattle.format.specs.Tree.{Raw, punct, bitsAgree, need, identOf, literalOf, closed101, form111, controlled, afterSpan, treeAt}
 use Rattle.format.proofs.TreeBounds.{Spanned, span-within, Symboled, symbol-within}
 use Rattle.format.proofs.Local.{word-kept, span-kept, symbol-kept}
 
@@ -40,6 +40,10 @@ module _ (b c : List ℕ) (p q : ℕ) (room : q ≤ length c) (same : (i : ℕ) 
       go : (z : Bool) → leb m (length b) ≡ z → Kept o (need b m x) (need c m y)
       go true e = simp e (kept-as o m x (need c m y) y h there k)
       go false e = simp e tt
+
+  kept-if : (o : ℕ) (z : Bool) (r : ℕ) (x y : Reply Raw) → Kept o x y → Kept o (if z then x else bad r) (if z then y else bad r)
+  kept-if o true r x y k = k
+  kept-if o false r x y k = tt
 
   kept-ident : (i : ℕ) (s : Span) (y : SymbolRead) → p ≤ i → symbolAt b i ≡ y → Symboled b i y → Kept (i + 1) (identOf s y) (identOf s (symbolAt c i))
   kept-ident i s (symbol t j n) h e w = (w .0, λ l. ap (identOf s) (symbol-there i t j n h l e))
@@ -98,10 +102,15 @@ module _ (b c : List ℕ) (p q : ℕ) (room : q ≤ length c) (same : (i : ℕ) 
       go : (x₀ x₁ x₂ x₅ x₆ x₇ : Bool) → eqb (d % 8) 0 ≡ x₀ → eqb (d % 8) 1 ≡ x₁ → eqb (d % 8) 2 ≡ x₂ → eqb (d % 8) 5 ≡ x₅ → eqb (d % 8) 6 ≡ x₆ → eqb (d % 8) 7 ≡ x₇
           → Kept (i + 1) (controlled b s i d) (controlled c s i d)
       go true x₁ x₂ x₅ x₆ x₇ e₀ e₁ e₂ e₅ e₆ e₇ =
-          simp e₀ (fixed (i + 3) _ _ _ _ (omega arith) (λ l.
-          let x = here (i + 1) (omega arith) (omega arith) in
-          let y = here (i + 2) (omega arith) (omega arith) in
-          simp (x, y)))
+          simp e₀
+          (kept-need (i + 1) (i + 3) _ _ (omega arith)
+          (kept-if (i + 3) (bitsAgree s d) 2 (got _ _ _) (got _ _ _) (
+            omega arith,
+            λ l.
+                let x = here (i + 1) (omega arith) (omega arith) in
+                let y = here (i + 2) (omega arith) (omega arith) in
+                simp (x, y),
+          )))
       go false true x₂ x₅ x₆ x₇ e₀ e₁ e₂ e₅ e₆ e₇ =
           simp (e₀, e₁) (fixed (i + 3) _ _ _ _ (omega arith) (λ l.
           let x = here (i + 1) (omega arith) (omega arith) in

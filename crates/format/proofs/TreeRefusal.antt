@@ -19,7 +19,7 @@ use Rattle.format.specs.Buffer.{formed, judge, readerAs, wordShape, rawS
 use Rattle.format.proofs.CheckRefusal.{Refused, size, tree, left, root, nesting, count, check-refusal, refused-check}
 use Rattle.format.proofs.NestLaw.{Why, passes-other, passes-list, deep}
 use Rattle.format.proofs.RootForm.{Form, root-form, form-root}
-use Rattle.format.proofs.Unread.{Cut, Early, unread, cut-seven, early-two}
+use Rattle.format.proofs.Unread.{Cut, Early, Disagrees, unread, cut-seven, early-two, disagrees-two}
 
 module _ {A : Type 0} (show : ℕ → Raw → A) (T : TableRules) (n p : ℕ) where
   -- tree n at place p, of which this was read: its bytes, then its form and fields, then its indices
@@ -78,6 +78,7 @@ module _ (b : List ℕ) (N : Limits) (n p : ℕ) where
   pub data TreeRow : ℕ → Type 0 where
     cut : Cut b p → TreeRow 7
     early : Early b p → TreeRow 2
+    bits : Disagrees b p → TreeRow 2
     form : (t : Raw) (next kids : ℕ) → treeAt b p ≡ got t next kids → formed n p next ≡ false → TreeRow 2
     field : (t : Raw) (next kids : ℕ) → treeAt b p ≡ got t next kids → formed n p next ≡ true → fields t ≡ false → TreeRow 2
     index : (t : Raw) (next kids : ℕ) → treeAt b p ≡ got t next kids → formed n p next ≡ true → fields t ≡ true
@@ -86,7 +87,7 @@ module _ (b : List ℕ) (N : Limits) (n p : ℕ) where
   module _ {A : Type 0} (show : ℕ → Raw → A) (T : TableRules) (eight : (t : Raw) → T .judged n t ≡ rowEight N n t) where
     tree-row-of : (x : Reply Raw) (r : ℕ) → treeAt b p ≡ x → Row show T n p x r → TreeRow r
     tree-row-of x r e (bytes a) =
-        ⊎-elim (λ i. subst TreeRow (sym (i .0)) (cut (i .1))) (λ i. subst TreeRow (sym (i .0)) (early (i .1))) (unread b p a e)
+        ⊎-elim (λ i. subst TreeRow (sym (i .0)) (cut (i .1))) (λ i. subst TreeRow (sym (i .0)) (⊎-elim early bits (i .1))) (unread b p a e)
     tree-row-of x r e (shape t q k f) = form t q k e f
     tree-row-of x r e (range t q k f g) = field t q k e f g
     tree-row-of x r e (table t q k f g h) = go _ refl
@@ -102,6 +103,7 @@ module _ (b : List ℕ) (N : Limits) (n p : ℕ) where
     unfolding judge
     row-tree r (cut h) = rw (cut-seven b p h)
     row-tree r (early h) = rw (early-two b p h)
+    row-tree r (bits h) = rw (disagrees-two b p h)
     row-tree r (form t q k e f) = rw e (simp f)
     row-tree r (field t q k e f g) = rw e (simp (f, g))
     row-tree r (index t q k e f g h) = rw e (simp (f, g, eight t, h))
@@ -109,6 +111,7 @@ module _ (b : List ℕ) (N : Limits) (n p : ℕ) where
 pub row-numbers : (b : List ℕ) (N : Limits) (n p r : ℕ) → TreeRow b N n p r → (r ≡ 7) ⊎ ((r ≡ 2) ⊎ (r ≡ 8))
 row-numbers b N n p r (cut e) = inl refl
 row-numbers b N n p r (early h) = inr (inl refl)
+row-numbers b N n p r (bits h) = inr (inl refl)
 row-numbers b N n p r (form t q k e f) = inr (inl refl)
 row-numbers b N n p r (field t q k e f g) = inr (inl refl)
 row-numbers b N n p r (index t q k e f g h) = inr (inr refl)

@@ -21,7 +21,7 @@ module _ {A : Type 0} where
   abbrev pub unless : ℕ → Reply A → Reply A
   unless r a = if eqb r 0 then a else bad r
 
-  -- "tree by tree 7, 2, 8": tree n at place p, shown as an A. 7 and the early 2 come from reading its bytes
+  -- "tree by tree 7, 2, 8": tree n at place p, shown as an A. 7, the early 2 and that of distance bits come from reading its bytes
   unfoldable pub judge : (ℕ → Raw → A) → TableRules → ℕ → ℕ → Reply Raw → Reply A
   judge show T n p (got t next kids) =
       if not (formed n p next) then bad 2 else

@@ -11,9 +11,9 @@ use Rattle.format.specs.Test.{if_then_else_}
 use Rattle.format.specs.Word.{byteAt, wordAt}
 use Rattle.format.specs.Span.{Span, SpanRead, span, spanAt, span₁, span₂, span₃, SymbolRead, symbol, symbolAt}
 use Rattle.format.specs.Reader.{Reply, got, bad}
-use Rattle.format.specs.Tree.{Raw, punct, need, identOf, literalOf, closed101, form111, controlled, afterSpan, treeAt}
+use Rattle.format.specs.Tree.{Raw, punct, bitsAgree, need, identOf, literalOf, closed101, form111, controlled, afterSpan, treeAt}
 use Rattle.format.specs.Loose.{Loose, isLoose, looseRead, looseBy, looseAfter, looseAt}
-use Rattle.format.proofs.TreeBounds.{Spanned, span-within, Symboled, symbol-within}
+use Rattle.format.proofs.TreeBounds.{choice, Spanned, span-within, Symboled, symbol-within}
 use Rattle.format.proofs.LooseLaw.{loose-4}
 
 held : (p q : ℕ) (x : Bool) → p + 8 ≤ q → p + 8 * (if x then 1 else 0) ≤ q
@@ -78,7 +78,7 @@ module _ (b : List ℕ) where
   controlled-past q s c e₅ = go _ _ _ _ _ refl refl refl refl refl
     where
       go : (x₀ x₁ x₂ x₆ x₇ : Bool) → eqb (c % 8) 0 ≡ x₀ → eqb (c % 8) 1 ≡ x₁ → eqb (c % 8) 2 ≡ x₂ → eqb (c % 8) 6 ≡ x₆ → eqb (c % 8) 7 ≡ x₇ → Past q (controlled b s q c)
-      go true x₁ x₂ x₆ x₇ e₀ e₁ e₂ e₆ e₇ = simp e₀ (need-past q (q + 3) (got _ _ _) (omega arith))
+      go true x₁ x₂ x₆ x₇ e₀ e₁ e₂ e₆ e₇ = simp e₀ (need-past q (q + 3) _ (choice (Past q) (bitsAgree s c) (got _ _ _) (bad 2) (omega arith) tt))
       go false true x₂ x₆ x₇ e₀ e₁ e₂ e₆ e₇ = simp (e₀, e₁) (need-past q (q + 3) (got _ _ _) (omega arith))
       go false false true x₆ x₇ e₀ e₁ e₂ e₆ e₇ = simp (e₀, e₁, e₂) (need-past q (q + 5) (got _ _ _) (omega arith))
       go false false false true x₇ e₀ e₁ e₂ e₆ e₇ = simp (e₀, e₁, e₂, e₅, e₆) (need-past q (q + 5) (got _ _ _) (omega arith))

@@ -63,9 +63,8 @@ uint32_t tt_preview(const uint8_t *b, size_t b_len, uint32_t trees, const uint32
  * length alone: the work words are those of tt_set_token, but no tables are made. No run may lie over one that is written. Nothing is
  * kept between calls: threads may call it at once, on runs of their own.
  *
- * 0: out begins with the new buffer, behind which it is unchanged; told has how many bytes that is. It can be more than b has, and is
- * at most TT_MOST_BYTES. Trees and tables are as before. What list and counts hold is open up to the lengths above, behind which they
- * are unchanged.
+ * 0: out begins with the new buffer, behind which it is unchanged; told has how many bytes that is, at most TT_MOST_BYTES.
+ * Trees and tables are as before. What list and counts hold is open up to the lengths above, behind which they are unchanged.
  *
  * Else the number of the refusal, and told has the tree that it names; out is unchanged:
  * - the check's, at its tree: 1, 2, 3, 4, 7, 8 or 9;

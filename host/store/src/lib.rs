@@ -155,8 +155,7 @@ impl Stored {
     /// This list over these tables in the writer's bytes: spans, symbols, literals and subtrees in the forms that the writer takes, each index
     /// that of its entry's first place. The tables stay, with unused and repeated entries.
     ///
-    /// Tidying again changes nothing, and two with the same tables become equal exactly if they hold the same list. Fewer bytes are not
-    /// promised: where the control bits 5 to 7 of a subtree in form 000 are not its stored length / 256, the writer's bytes can be more.
+    /// Tidying again changes nothing, and two with the same tables become equal exactly if they hold the same list.
     ///
     /// For the time of the call it takes 161 bytes a tree: work words, and room for the most that there can be to write.
     ///

@@ -165,7 +165,7 @@ fn the_loose_tariff_becomes_the_tariff() {
 }
 
 /// A root over so many parts, Invisible, both spans 0, the close span's extra bits given, and trees of these bytes in it.
-fn rooted(parts: &[[u32; 3]], symbols: &[u32], close_extra: u8, trees: &[&[u8]]) -> Stored {
+fn bundled(parts: &[[u32; 3]], symbols: &[u32], close_extra: u8, trees: &[&[u8]]) -> Vec<u8> {
     let (mut bundle, below) = (Vec::new(), trees.concat());
     for part in parts {
         bundle.extend([b"SP", part.map(u32::to_le_bytes).as_flattened()].concat());
@@ -181,28 +181,37 @@ fn rooted(parts: &[[u32; 3]], symbols: &[u32], close_extra: u8, trees: &[&[u8]])
     bundle.extend(root);
     bundle.extend([count, below.len() as u32].map(u32::to_le_bytes).as_flattened());
     bundle.extend(below);
-    Stored::from_bundle(&bundle).expect("a bundle that passes")
+    bundle
+}
+
+fn rooted(parts: &[[u32; 3]], symbols: &[u32], close_extra: u8, trees: &[&[u8]]) -> Stored {
+    Stored::from_bundle(&bundled(parts, symbols, close_extra, trees)).expect("a bundle that passes")
 }
 
 const PARTS: [[u32; 3]; 3] = [[7, 0, 0], [1, 0, 0], [2, 0, 0]];
 
-/// Parentheses at 5 whose close start is 5 + (3 OR 256) = 264: the writer stores the distance 259 whole, for which a span has eight bytes.
-/// 0x2C0C0 = start 5, E, length 3; 0x1000 = 1 * 256 of length; 20 = distance / 256.
+/// Parentheses at 5 in 000, the stored length 3, 259 or 2047 beside every value of control bits 5 to 7: one passes, and stays as it is; the
+/// others, with which the closing bracket could be taken to stand elsewhere, are refused. 2048 is refused with all of them.
 #[test]
-fn distance_bits_without_length_take_four_bytes_more() {
-    let stored = rooted(&PARTS, &[], 0, &[b"\xC0\x80\x02\0\x20\0\0"]);
-    let tidy = rooted(&PARTS, &[], 0, &[b"\xC0\xC0\x02\0\0\x10\0\0\x20\0\0"]);
-    assert_eq!((stored.bytes().len(), tidy.bytes().len()), (33 + 7, 33 + 11));
-    assert_eq!(tidied(&stored), tidy);
-}
-
-/// Parentheses at 5 with the distance 2048, which the writer's 000 does not hold: 101, its close span 0x04028040 = start 2053, length 1.
-#[test]
-fn a_distance_of_2048_takes_six_bytes_more() {
-    let stored = rooted(&PARTS, &[], 0, &[b"\0\xC0\x02\0\0\x80\0\0\0\0\0"]);
-    let tidy = rooted(&PARTS, &[], 0, &[b"\x40\x80\x02\0\x05\x40\x80\x02\x04\0\0\0\0\0\0\0\0"]);
-    assert_eq!((stored.bytes().len(), tidy.bytes().len()), (33 + 11, 33 + 17));
-    assert_eq!(tidied(&stored), tidy);
+fn distance_bits_repeat_the_stored_length() {
+    let spans: [(&[u8], Option<u8>); 4] = [
+        (b"\xC0\x80\x02\0", Some(0)),
+        (b"\xC0\xC0\x02\0\0\x10\0\0", Some(1)),
+        (b"\xC0\xFF\x02\0\0\x70\0\0", Some(7)),
+        (b"\0\xC0\x02\0\0\x80\0\0", None),
+    ];
+    for (span, due) in spans {
+        for bits in 0..8 {
+            let tree = [span, &[32 * bits, 0, 0]].concat();
+            let stored = Stored::from_bundle(&bundled(&PARTS, &[], 0, &[&tree]));
+            if due == Some(bits) {
+                let stored = stored.expect("a bundle that passes");
+                assert_eq!(tidied(&stored), stored);
+            } else {
+                assert_eq!(stored.map_err(refused), Err((2, 1)), "{tree:02x?}");
+            }
+        }
+    }
 }
 
 /// No span is loose, yet every tree has other bytes, the root too. The tables, an entry twice in each, stay.
