@@ -84,14 +84,22 @@ pub fn stored(seed: u64) -> (Random, Stored) {
     (m.r, s)
 }
 
-/// Numbers of the trees in 000 and places of their control bytes, as far as the trees can be read, their distance by OR.
-pub fn brackets(s: &Stored) -> Vec<(u64, usize)> {
+/// A tree in 000: its number, its stored length, the place of its control byte.
+#[derive(Clone, Copy)]
+pub struct Bracket {
+    pub tree: u64,
+    pub len: u32,
+    pub control: usize,
+}
+
+/// Those of a buffer as far as the trees can be read, their distance by OR. Of the last one not all bytes need be there.
+pub fn brackets(s: &Stored) -> Vec<Bracket> {
     let (buffer, mut at, mut all) = (s.plain(), 0, vec![]);
-    for n in 0..s.trees.into() {
-        if let Ok(([.., 0, _], control)) = read_span(&s.bytes, at as usize) {
-            all.extend(s.bytes.get(control).filter(|&c| c % 8 == 0).map(|_| (n, control)));
+    for tree in 0..s.trees.into() {
+        if let Ok(([_, _, len, 0, _], control)) = read_span(&s.bytes, at as usize) {
+            all.extend(s.bytes.get(control).filter(|&c| c % 8 == 0).map(|_| Bracket { tree, len, control }));
         }
-        let Ok(read) = buffer.read_by(Distance::Or, n, at) else { break };
+        let Ok(read) = buffer.read_by(Distance::Or, tree, at) else { break };
         at = read.next;
     }
     all
@@ -101,7 +109,7 @@ pub fn brackets(s: &Stored) -> Vec<(u64, usize)> {
 pub fn other_bits(r: &mut Random, s: &mut Stored) {
     let all = brackets(s);
     if !all.is_empty() {
-        s.bytes[r.pick(&all).1] ^= 32 * (1 + r.below(7) as u8);
+        s.bytes[r.pick(&all).control] ^= 32 * (1 + r.below(7) as u8);
     }
 }
 

@@ -1,7 +1,7 @@
 //! The distance bits of form 000. Where control bits 5 to 7 are the stored length / 256 a tree is read as the source reads it; where they are not
 //! it is 2, and the source reads it by OR.
-use crate::buffers::{Stored, brackets, other_bits, stored};
-use crate::plain::{self, Distance, Span, read_span, span_bytes};
+use crate::buffers::{Bracket, Stored, brackets, other_bits, stored};
+use crate::plain::{self, Distance, Span, span_bytes};
 use crate::plain_list::Refusal;
 use crate::proved;
 use crate::tally::Tally;
@@ -53,17 +53,8 @@ pub fn trees(tally: &mut Tally) {
 
 /// The first tree whose bytes are all there and whose distance bits disagree, those before it being read by OR.
 fn first_apart(s: &Stored) -> Option<u64> {
-    let (buffer, mut at) = (s.plain(), 0);
-    for n in 0..s.trees.into() {
-        if let Ok(([_, _, len, 0, _], control)) = read_span(&s.bytes, at as usize) {
-            let there = s.bytes.get(control..control + 3).is_some_and(|c| c[0] % 8 == 0 && u32::from(c[0]) / 32 != len / 256);
-            if there {
-                return Some(n);
-            }
-        }
-        at = buffer.read_by(Distance::Or, n, at).ok()?.next;
-    }
-    None
+    let apart = |b: &Bracket| s.bytes.get(b.control..b.control + 3).is_some_and(|c| u32::from(c[0]) / 32 != b.len / 256);
+    brackets(s).into_iter().find(apart).map(|b| b.tree)
 }
 
 /// The check by OR, and what it is now: the same, or 2 at the first tree that disagrees.
@@ -130,7 +121,7 @@ pub fn buffers(tally: &mut Tally, buffers: u64) {
 pub fn every_bit(tally: &mut Tally, buffers: u64) {
     for seed in (0..4 * buffers).step_by(4) {
         let (_, mut s) = stored(seed);
-        for (n, control) in brackets(&s) {
+        for Bracket { tree: n, control, .. } in brackets(&s) {
             for bits in 1..8 {
                 s.bytes[control] ^= 32 * bits;
                 let refused = proved::check_buffer(&s.bytes, s.trees, &s.parts, &s.symbols) == Err((2, n));
