@@ -1,6 +1,8 @@
 // A table mode beside document 01's, read by the same core: a stated number of parts in a run that may be longer, and
 // the root's two parts in a run of their own under an index of their own. It shows that a mode costs fronts and no
 // copies.
+#![tactic(auto)]
+
 ghost use Rattle.std.specs.Prelude.{◌≡◌};
 ghost use Rattle.format.specs.Tables.{mode_tables};
 ghost use Rattle.format.specs.Check.{check};

@@ -1,4 +1,6 @@
 // The builder: a list of trees made step by step in a lent run of words.
+#![tactic(auto)]
+
 pub mod build;
 pub mod range;
 pub mod restore;

@@ -16,7 +16,7 @@ use tree::raw::place;
 use tree::refusal::{Refusal, Verdict};
 use width::TREE_WORDS;
 
-#[derive(Drop)]
+#[derive(Clone, Copy)]
 pub enum PointTaken {
     Point(Point),
     Refused(Refusal),

@@ -12,7 +12,7 @@ use width::TREE_WORDS;
 // How many subtrees may be open at once, the root apart.
 pub const MOST_OPEN: usize = 255;
 
-#[derive(Drop)]
+#[derive(Clone, Copy)]
 pub struct Builder {
     pub count: u32,
     pub depth: usize,
@@ -21,13 +21,13 @@ pub struct Builder {
 }
 
 // A moment to come back to: so many trees, so many of them open.
-#[derive(Drop)]
+#[derive(Clone, Copy)]
 pub struct Point {
     pub trees: u32,
     pub opened: u32,
 }
 
-#[derive(Drop)]
+#[derive(Clone, Copy)]
 pub struct Stepped {
     pub verdict: Verdict,
     pub builder: Builder,

@@ -17,7 +17,7 @@ const SYMBOL: u32 = 0x59;
 const SYMBOL_BYTES: usize = 6;
 
 // What a bundle holds: its tree count, the sizes of its tables, and the place where its bytes begin.
-#[derive(Drop)]
+#[derive(Clone, Copy)]
 pub struct Contents {
     pub trees: u32,
     pub parts: usize,
@@ -25,7 +25,7 @@ pub struct Contents {
     pub start: usize,
 }
 
-#[derive(Drop)]
+#[derive(Clone, Copy)]
 pub enum BundleRead {
     Bundle(Contents),
     Bad,

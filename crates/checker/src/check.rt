@@ -20,7 +20,7 @@ use width::PART_WORDS;
 const MAX_DEPTH: u32 = 256;
 
 // How far the check of a run has come.
-#[derive(Drop)]
+#[derive(Clone, Copy)]
 enum Ran {
     // The next tree, its byte place, and the lowest subtree with a wrong byte count (the tree count if none).
     Through(u32, usize, u32),
@@ -28,7 +28,7 @@ enum Ran {
 }
 
 // Why the check of a run has stopped.
-#[derive(Drop)]
+#[derive(Clone, Copy)]
 enum Stop {
     // A tree that cannot be read: number, tree.
     Unread(u32, u32),
@@ -36,7 +36,7 @@ enum Stop {
     Unnested(u32, u32, usize),
 }
 
-#[derive(Drop)]
+#[derive(Clone, Copy)]
 enum Ending {
     End(usize),
     // A tree that cannot be read: number, tree.

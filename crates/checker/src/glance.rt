@@ -11,21 +11,21 @@ use tree::limits::Limits;
 use tree::raw::{ChildrenBytes, Descendants, RawAt, RawRead, RawTree};
 
 // What is known beside the bytes: the stated tree count, and how far indices reach.
-#[derive(Drop)]
+#[derive(Clone, Copy)]
 pub struct Sizes {
     pub trees: u32,
     pub limits: Limits,
 }
 
 // What a subtree says of the trees and the bytes below it, and where its own bytes end.
-#[derive(Drop)]
+#[derive(Clone, Copy)]
 pub struct Opening {
     pub count: Descendants,
     pub kids: ChildrenBytes,
     pub next: usize,
 }
 
-#[derive(Drop)]
+#[derive(Clone, Copy)]
 pub enum Glance {
     // The place behind the leaf.
     Leaf(usize),

@@ -11,7 +11,7 @@ use crate::plan::Answer;
 use crate::state::At;
 
 // The entries below `depth` are the open subtrees.
-#[derive(Drop)]
+#[derive(Clone, Copy)]
 pub struct Cursor {
     pub place: usize,
     pub number: u32,
@@ -22,7 +22,7 @@ pub struct Cursor {
 }
 
 // What a call answers, and the next cursor.
-#[derive(Drop)]
+#[derive(Clone, Copy)]
 pub struct Next {
     pub answer: Answer,
     pub cursor: Cursor,

@@ -15,7 +15,7 @@ use tree::refusal::Refusal;
 use walk::sizes::sized;
 use width::PART_WORDS;
 
-#[derive(Drop)]
+#[derive(Clone, Copy)]
 pub struct Moved {
     pub answer: Answer,
     pub at: At,

@@ -18,14 +18,14 @@ use walk::sizes::sized;
 use width::PART_WORDS;
 
 // A leaf ahead of the cursor, and its report.
-#[derive(Drop)]
+#[derive(Clone, Copy)]
 pub struct Ahead {
     pub leaf: Leaf,
     pub loose: Loose,
 }
 
 // The nearer leaf first. Where two were not found the leaves are blank, and `otherwise` says why.
-#[derive(Drop)]
+#[derive(Clone, Copy)]
 pub struct TwoLeaves {
     pub found: bool,
     pub leaves: [Ahead; 2],

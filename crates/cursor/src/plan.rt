@@ -17,7 +17,7 @@ use tree::raw::{Descendants, RawAt, RawRead, RawTree};
 use tree::refusal::Refusal;
 use tree::types::TokenTree;
 
-#[derive(Drop)]
+#[derive(Clone, Copy)]
 pub enum Answer {
     // Nothing to hand back.
     Done,
@@ -27,13 +27,13 @@ pub enum Answer {
 }
 
 // A subtree that is opened, and the place of its first child.
-#[derive(Drop)]
+#[derive(Clone, Copy)]
 pub struct Opening {
     pub count: Descendants,
     pub next: usize,
 }
 
-#[derive(Drop)]
+#[derive(Clone, Copy)]
 pub enum Change {
     Stay,
     // To the next tree, at this place.
@@ -44,7 +44,7 @@ pub enum Change {
     Shut,
 }
 
-#[derive(Drop)]
+#[derive(Clone, Copy)]
 pub struct Plan {
     pub answer: Answer,
     pub change: Change,

@@ -1,5 +1,5 @@
 // A cursor without its arrays.
-#[derive(Drop)]
+#[derive(Clone, Copy)]
 pub struct At {
     pub place: usize,
     pub number: u32,

@@ -24,21 +24,21 @@ use tree::sizes::tables_sized;
 use tree::types::{Ident, Leaf, Literal, Punct, Span, Subtree, TokenTree};
 use width::PART_WORDS;
 
-#[derive(Drop)]
+#[derive(Clone, Copy)]
 pub struct TreeAt {
     pub tree: TokenTree,
     pub next: usize,
     pub children: ChildrenBytes,
 }
 
-#[derive(Drop)]
+#[derive(Clone, Copy)]
 pub enum TreeRead {
     Got(TreeAt),
     Refused(u32),
 }
 
 // The same with the report on its spans.
-#[derive(Drop)]
+#[derive(Clone, Copy)]
 pub struct DecodedTree {
     pub tree: TokenTree,
     pub next: usize,
@@ -46,7 +46,7 @@ pub struct DecodedTree {
     pub loose: Loose,
 }
 
-#[derive(Drop)]
+#[derive(Clone, Copy)]
 pub enum TreeDecoded {
     Got(DecodedTree),
     Refused(u32),

@@ -15,7 +15,7 @@ use tree::loose::Loose;
 use tree::raw::{ChildrenBytes, RawRead, RawTree, place};
 
 // A tree that was read and judged, the place behind it, a subtree's children bytes, and the report on its spans.
-#[derive(Drop)]
+#[derive(Clone, Copy)]
 pub struct JudgedTree {
     pub tree: RawTree,
     pub next: usize,
@@ -23,7 +23,7 @@ pub struct JudgedTree {
     pub loose: Loose,
 }
 
-#[derive(Drop)]
+#[derive(Clone, Copy)]
 pub enum TreeJudged {
     Got(JudgedTree),
     // The refusal's number.

@@ -1,1 +1,2 @@
 // What the functions promise together: no function.
+#![tactic(auto)]

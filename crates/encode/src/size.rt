@@ -15,7 +15,7 @@ use tree::raw::{ChildrenBytes, Descendants, RawIdent, RawLiteral, RawPunct, RawS
 pub const ASCII: u32 = 128;
 
 // The forms of a subtree below the root, in the order in which they are tried.
-#[derive(Drop)]
+#[derive(Clone, Copy)]
 pub enum SubtreeForm {
     // 000: both delimiters have length 1 and are of one part.
     Brackets,

@@ -1,4 +1,6 @@
 // Functions on slices of numbers, for tests and benchmarks from Rust or C.
+#![tactic(auto)]
+
 pub mod buffers;
 pub mod builders;
 pub mod by_value;

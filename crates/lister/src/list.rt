@@ -23,7 +23,7 @@ use tree::refusal::Verdict;
 const MOST: usize = 65536;
 
 // Where the next line goes, and how many subtrees are on the stack.
-#[derive(Drop)]
+#[derive(Clone, Copy)]
 struct Done {
     next: usize,
     depth: usize,

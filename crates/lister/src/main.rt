@@ -1,4 +1,6 @@
 // The lister: a bundle on standard input, its trees on standard output, a line each; or the one line of its refusal.
+#![tactic(auto)]
+
 ghost use Rattle.std.specs.Prelude.{◌≡◌, ◌≤◌, length, take};
 ghost use Rattle.io.specs.Counts.{IsPrefixLen};
 ghost use Rattle.format.specs.Lister.{lister_text};

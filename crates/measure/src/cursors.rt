@@ -15,7 +15,7 @@ use cursor::plan::Answer;
 use cursor::state::At;
 
 // The sum so far, or what the loop answers.
-#[derive(Drop)]
+#[derive(Clone, Copy)]
 pub struct Round {
     pub ended: bool,
     pub sum: u64,

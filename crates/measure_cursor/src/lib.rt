@@ -1,4 +1,6 @@
 // A cursor over lent arrays to the end in one call. A library of its own, as `measure_walk` is.
+#![tactic(auto)]
+
 ghost use Rattle.std.specs.Prelude.{◌≡◌, ◌*◌};
 ghost use Rattle.format.specs.Buffer.{own_reader};
 ghost use Rattle.format.specs.Cursor.{fresh_cursor};

@@ -1,4 +1,6 @@
 // Spans packed in one call. A library of its own, as `measure_walk` is.
+#![tactic(auto)]
+
 ghost use Rattle.reference.specs.Lists.{AllPacked};
 
 use reference::lists::pack_all;

@@ -1,5 +1,7 @@
 // Walks to the end in one call. A library of its own: with other callers of the reader beside it the reader would not
 // be compiled into this loop.
+#![tactic(auto)]
+
 ghost use Rattle.std.specs.Prelude.{◌≡◌};
 ghost use Rattle.format.specs.Buffer.{own_reader};
 ghost use Rattle.format.specs.Walk.{advance, skip};

@@ -1,4 +1,6 @@
 // Packing and reading of one span and of one symbol. The crates above know of either what these functions promise.
+#![tactic(auto)]
+
 mod rests;
 pub mod span;
 pub mod symbol;
@@ -7,7 +9,7 @@ pub mod unchecked;
 ghost use Rattle.std.specs.Prelude.{◌≡◌, ◌-◌};
 
 // What packing answers: the bytes written, or the refusal's number.
-#[derive(Drop)]
+#[derive(Clone, Copy)]
 pub enum Packed {
     Written(usize),
     Refused(u32),

@@ -15,7 +15,7 @@ use crate::unchecked::{put_word, word_at};
 use crate::{Packed, room};
 
 // A span as it is packed: the index of its part, its start and its length.
-#[derive(Drop)]
+#[derive(Clone, Copy)]
 pub struct PackedSpan {
     pub index: u32,
     pub start: u32,
@@ -23,14 +23,14 @@ pub struct PackedSpan {
 }
 
 // A span that was read, its extra bits, and the place behind it.
-#[derive(Drop)]
+#[derive(Clone, Copy)]
 pub struct SpanAt {
     pub span: PackedSpan,
     pub extra: u32,
     pub next: usize,
 }
 
-#[derive(Drop)]
+#[derive(Clone, Copy)]
 pub enum SpanRead {
     Read(SpanAt),
     // The buffer ends inside the span.
@@ -38,7 +38,7 @@ pub enum SpanRead {
 }
 
 // The same, and whether a form of fewer bytes holds the span.
-#[derive(Drop)]
+#[derive(Clone, Copy)]
 pub struct DecodedSpan {
     pub span: PackedSpan,
     pub extra: u32,
@@ -46,7 +46,7 @@ pub struct DecodedSpan {
     pub loose: bool,
 }
 
-#[derive(Drop)]
+#[derive(Clone, Copy)]
 pub enum SpanDecoded {
     Read(DecodedSpan),
     Short,

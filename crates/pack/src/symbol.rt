@@ -15,14 +15,14 @@ const ONE_BYTE: u32 = 64;
 const TWO_BYTES: u32 = 8192;
 
 // A symbol that was read, its tag bit, and the place behind it.
-#[derive(Drop)]
+#[derive(Clone, Copy)]
 pub struct SymbolAt {
     pub index: u32,
     pub tag: u32,
     pub next: usize,
 }
 
-#[derive(Drop)]
+#[derive(Clone, Copy)]
 pub enum SymbolRead {
     Read(SymbolAt),
     // The buffer ends inside the symbol.

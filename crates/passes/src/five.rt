@@ -143,7 +143,7 @@ pub(crate) fn run_end(n: usize, room: usize, count: usize) -> usize
 }
 
 // The run that begins at tree n, and its first tree with a part or a symbol that has no place.
-#[derive(Drop)]
+#[derive(Clone, Copy)]
 struct Searched {
     pub found: usize,
     pub stop: usize,

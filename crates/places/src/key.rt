@@ -8,7 +8,7 @@ ghost use Rattle.places.specs.Key.{part_of, symbol_part, part_in, key_at, key_co
 use width::{CLOSE_AT, OPEN_AT, PART_WORDS, TREE_WORDS};
 
 // The words of a part, or a symbol and zeros.
-#[derive(Drop)]
+#[derive(Clone, Copy)]
 pub struct Key {
     pub file: u32,
     pub ast_id: u32,
@@ -16,7 +16,7 @@ pub struct Key {
 }
 
 // How keys stand in a run of words.
-#[derive(Drop)]
+#[derive(Clone, Copy)]
 pub enum Layout {
     // The entries of a table.
     Parts,

@@ -1,4 +1,6 @@
 // The first places of a list's parts and symbols in their tables.
+#![tactic(auto)]
+
 mod closes;
 mod index;
 pub mod key;

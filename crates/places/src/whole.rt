@@ -13,7 +13,7 @@ use slots::probe::Looked;
 use width::TREE_WORDS;
 
 // What a tree does not use may be any.
-#[derive(Drop)]
+#[derive(Clone, Copy)]
 pub struct Indices {
     pub opening: u32,
     pub closing: u32,

@@ -17,7 +17,7 @@ use width::{PART_WORDS, TREE_WORDS};
 use writer::write::encode_list;
 
 // How many parts and symbols there are.
-#[derive(Drop)]
+#[derive(Clone, Copy)]
 pub struct Counted {
     pub parts: usize,
     pub symbols: usize,

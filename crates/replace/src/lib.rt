@@ -1,4 +1,6 @@
 // One leaf of a stored list exchanged: new bytes over new tables; and their sizes before.
+#![tactic(auto)]
+
 mod fresh;
 mod judge;
 mod prepare;

@@ -14,7 +14,7 @@ use unpack::list::unpack;
 use unpack::work::work_fits;
 use width::TREE_WORDS;
 
-#[derive(Drop)]
+#[derive(Clone, Copy)]
 pub(crate) enum Prepared {
     // List and tables stand in work words.
     Made(Counted),

@@ -18,7 +18,7 @@ use width::{PART_WORDS, TREE_WORDS};
 use writer::write::write_own;
 
 // How many bytes, parts and symbols there would be.
-#[derive(Drop)]
+#[derive(Clone, Copy)]
 pub(crate) struct Sizes {
     pub(crate) bytes: usize,
     pub(crate) parts: usize,

@@ -5,7 +5,7 @@ ghost use Rattle.replace.specs.Report.{replace_answer};
 
 use tree::refusal::Refusal;
 
-#[derive(Drop)]
+#[derive(Clone, Copy)]
 pub enum ReplaceReport {
     // How many bytes, parts, the root's two among them, and symbols there are then.
     Replaced {

@@ -1,4 +1,6 @@
 // Root rewriting: the root's kind, or its two spans, in a buffer that passes the check; nothing else changes.
+#![tactic(auto)]
+
 ghost use Rattle.std.specs.Prelude.{◌≡◌, ◌+◌, ◌*◌, ◌≤◌, ◌<◌, ◌++◌, length};
 ghost use Rattle.format.specs.Width.{part_size};
 ghost use Rattle.format.specs.Part.{part_words, indexed};

@@ -3,7 +3,7 @@ ghost use Rattle.std.specs.Prelude.{◌≡◌, ◌<◌};
 ghost use Rattle.slots.specs.Probe.{next_slot};
 
 // What a search ends with.
-#[derive(Drop)]
+#[derive(Clone, Copy)]
 pub enum Looked {
     // A key's number.
     Found(usize),

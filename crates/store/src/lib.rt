@@ -1,4 +1,6 @@
 // What is done with stored buffers, for hosts: functions in numbers, on lent runs.
+#![tactic(auto)]
+
 pub mod preview_token;
 pub mod set_token;
 pub mod tidy_buffer;

@@ -15,7 +15,7 @@ use list::rows::list_rows;
 use tree::refusal::{Refusal, Verdict};
 use width::{CLOSE_AT, OPEN_AT, PART_WORDS};
 
-#[derive(Drop)]
+#[derive(Clone, Copy)]
 pub enum TablesReport {
     // How many parts there are, the root's two among them, and how many symbols.
     Made { parts: usize, symbols: usize },

@@ -1,4 +1,6 @@
 // Text put into a lent run of bytes, one piece behind the other. What the run has no room for is left out.
+#![tactic(auto)]
+
 ghost use Rattle.std.specs.Prelude.{◌≡◌, [], ◌∷◌, ◌+◌, ◌<◌, min};
 ghost use Rattle.format.specs.Lister.{decimal};
 ghost use Rattle.text.specs.Typed.{Typed};

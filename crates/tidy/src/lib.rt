@@ -1,2 +1,4 @@
 // The list of a checked buffer, written again over the same tables.
+#![tactic(auto)]
+
 pub mod tidy;

@@ -7,25 +7,25 @@ use crate::fields::raw_count_fits;
 use crate::types::{DelimiterKind, IdentIsRaw, LitKind, Spacing};
 
 // Each answers a kind, or the refusal's number.
-#[derive(Drop)]
+#[derive(Clone, Copy)]
 pub enum SpacingRead {
     Got(Spacing),
     Bad(u32),
 }
 
-#[derive(Drop)]
+#[derive(Clone, Copy)]
 pub enum IsRawRead {
     Got(IdentIsRaw),
     Bad(u32),
 }
 
-#[derive(Drop)]
+#[derive(Clone, Copy)]
 pub enum DelimiterRead {
     Got(DelimiterKind),
     Bad(u32),
 }
 
-#[derive(Drop)]
+#[derive(Clone, Copy)]
 pub enum LitKindRead {
     Got(LitKind),
     Bad(u32),

@@ -1,4 +1,6 @@
 // One tree as a value: its types, row 2 of its fields, and its list words.
+#![tactic(auto)]
+
 pub mod fields;
 pub mod kinds;
 pub mod limits;

@@ -3,7 +3,7 @@ ghost use Rattle.std.specs.Prelude.{◌≡◌, ◌-◌};
 ghost use Rattle.format.specs.Tables.{own_limits};
 ghost use Rattle.tree.specs.Mode.{limits_of};
 
-#[derive(Drop)]
+#[derive(Clone, Copy)]
 pub struct Limits {
     // A part below the root has an index below this.
     pub limit: usize,

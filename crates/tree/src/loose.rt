@@ -6,7 +6,7 @@ ghost use Rattle.tree.specs.Loose.{loose_of};
 use crate::types::TokenTree;
 
 // Which of a tree's spans are longer than needed. One number: a report that is not asked for costs nothing.
-#[derive(Drop)]
+#[derive(Clone, Copy)]
 pub enum Loose {
     None,
     // The only span, or the open one.
@@ -20,7 +20,7 @@ pub enum Loose {
 }
 
 // A tree that was read, and its report.
-#[derive(Drop)]
+#[derive(Clone, Copy)]
 pub struct ReportedTree {
     pub tree: TokenTree,
     pub loose: Loose,

@@ -4,27 +4,27 @@ ghost use Rattle.std.specs.Prelude.{◌≡◌, ◌<◌};
 use pack::span::PackedSpan;
 
 // The bytes of all descendants of a subtree, and their number: one cannot be handed where the other is due.
-#[derive(Drop)]
+#[derive(Clone, Copy)]
 pub struct ChildrenBytes(pub u32);
 
-#[derive(Drop)]
+#[derive(Clone, Copy)]
 pub struct Descendants(pub u32);
 
-#[derive(Drop)]
+#[derive(Clone, Copy)]
 pub struct RawPunct {
     pub span: PackedSpan,
     pub char: u32,
     pub spacing: u32,
 }
 
-#[derive(Drop)]
+#[derive(Clone, Copy)]
 pub struct RawIdent {
     pub span: PackedSpan,
     pub symbol: u32,
     pub raw: u32,
 }
 
-#[derive(Drop)]
+#[derive(Clone, Copy)]
 pub struct RawLiteral {
     pub span: PackedSpan,
     pub symbol: u32,
@@ -33,7 +33,7 @@ pub struct RawLiteral {
     pub suffix_len: u32,
 }
 
-#[derive(Drop)]
+#[derive(Clone, Copy)]
 pub struct RawSubtree {
     pub opening: PackedSpan,
     pub closing: PackedSpan,
@@ -41,7 +41,7 @@ pub struct RawSubtree {
     pub kind: u32,
 }
 
-#[derive(Drop)]
+#[derive(Clone, Copy)]
 pub enum RawTree {
     Punct(RawPunct),
     Ident(RawIdent),
@@ -50,14 +50,14 @@ pub enum RawTree {
 }
 
 // A tree that was read, the place behind it, and a subtree's children bytes.
-#[derive(Drop)]
+#[derive(Clone, Copy)]
 pub struct RawAt {
     pub tree: RawTree,
     pub next: usize,
     pub children: ChildrenBytes,
 }
 
-#[derive(Drop)]
+#[derive(Clone, Copy)]
 pub enum RawRead {
     Got(RawAt),
     // The refusal's number.

@@ -1,7 +1,7 @@
 // The types of the source, by value. A symbol is its table entry; characters and numbers are those of the list words.
 use crate::raw::Descendants;
 
-#[derive(Drop)]
+#[derive(Clone, Copy)]
 pub struct Span {
     pub file: u32,
     pub ast_id: u32,
@@ -10,20 +10,20 @@ pub struct Span {
     pub len: u32,
 }
 
-#[derive(Drop)]
+#[derive(Clone, Copy)]
 pub enum Spacing {
     Alone,
     Joint,
     JointHidden,
 }
 
-#[derive(Drop)]
+#[derive(Clone, Copy)]
 pub enum IdentIsRaw {
     No,
     Yes,
 }
 
-#[derive(Drop)]
+#[derive(Clone, Copy)]
 pub enum DelimiterKind {
     Parenthesis,
     Brace,
@@ -31,7 +31,7 @@ pub enum DelimiterKind {
     Invisible,
 }
 
-#[derive(Drop)]
+#[derive(Clone, Copy)]
 pub enum LitKind {
     Byte,
     Char,
@@ -46,21 +46,21 @@ pub enum LitKind {
     Err,
 }
 
-#[derive(Drop)]
+#[derive(Clone, Copy)]
 pub struct Punct {
     pub char: u32,
     pub spacing: Spacing,
     pub span: Span,
 }
 
-#[derive(Drop)]
+#[derive(Clone, Copy)]
 pub struct Ident {
     pub sym: u32,
     pub span: Span,
     pub is_raw: IdentIsRaw,
 }
 
-#[derive(Drop)]
+#[derive(Clone, Copy)]
 pub struct Literal {
     pub text_and_suffix: u32,
     pub span: Span,
@@ -68,7 +68,7 @@ pub struct Literal {
     pub suffix_len: u32,
 }
 
-#[derive(Drop)]
+#[derive(Clone, Copy)]
 pub struct Subtree {
     pub opening: Span,
     pub closing: Span,
@@ -76,14 +76,14 @@ pub struct Subtree {
     pub kind: DelimiterKind,
 }
 
-#[derive(Drop)]
+#[derive(Clone, Copy)]
 pub enum Leaf {
     Punct(Punct),
     Ident(Ident),
     Literal(Literal),
 }
 
-#[derive(Drop)]
+#[derive(Clone, Copy)]
 pub enum TokenTree {
     Leaf(Leaf),
     Subtree(Subtree),

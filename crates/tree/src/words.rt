@@ -25,14 +25,14 @@ use width::{
     OPEN_START, PART_WORDS, SPAN_WORDS, TREE_WORDS,
 };
 
-#[derive(Drop)]
+#[derive(Clone, Copy)]
 pub enum WordsRead {
     Got(TokenTree),
     // The refusal's number.
     Bad(u32),
 }
 
-#[derive(Drop)]
+#[derive(Clone, Copy)]
 pub enum RawWords {
     Got(RawTree),
     // The refusal's number.

@@ -16,7 +16,7 @@ use tree::raw::{Descendants, RawRead, RawTree, place};
 use width::PART_WORDS;
 
 // The tree that a search has come to, and its place.
-#[derive(Drop)]
+#[derive(Clone, Copy)]
 struct Reached {
     number: u32,
     at: usize,

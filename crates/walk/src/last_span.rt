@@ -17,13 +17,13 @@ use tree::types::{Leaf, Span, TokenTree};
 use width::PART_WORDS;
 
 // A span, and whether a form of fewer bytes than those it was read from holds it.
-#[derive(Drop)]
+#[derive(Clone, Copy)]
 pub struct ReportedSpan {
     pub span: Span,
     pub loose: bool,
 }
 
-#[derive(Drop)]
+#[derive(Clone, Copy)]
 pub enum LastSpan {
     Span(ReportedSpan),
     None,
@@ -31,7 +31,7 @@ pub enum LastSpan {
 }
 
 // What is last of a walk: found, or what is last of another one.
-#[derive(Drop)]
+#[derive(Clone, Copy)]
 enum Last {
     Found(LastSpan),
     Of(Walk),

@@ -1,4 +1,6 @@
 // Walks over a buffer, tree by tree or past whole subtrees, and the last span of what a walk has left.
+#![tactic(auto)]
+
 pub mod last_span;
 pub mod sizes;
 pub mod walk;

@@ -17,14 +17,14 @@ use tree::refusal::Refusal;
 use tree::types::TokenTree;
 use width::PART_WORDS;
 
-#[derive(Drop)]
+#[derive(Clone, Copy)]
 pub struct Walk {
     pub place: usize,
     pub number: u32,
     pub left: u32,
 }
 
-#[derive(Drop)]
+#[derive(Clone, Copy)]
 pub enum Answer {
     Tree(ReportedTree),
     None,
@@ -32,7 +32,7 @@ pub enum Answer {
 }
 
 // What a step answers, and the walk that it leaves.
-#[derive(Drop)]
+#[derive(Clone, Copy)]
 pub struct Step {
     pub answer: Answer,
     pub walk: Walk,
@@ -113,7 +113,7 @@ fn fits(b: &[u8], trees: u32, walk: Walk) -> bool
 
 // What both steps begin with: the step is over, or a tree is read. A whole step in here would hold a tree at another
 // place than the tree that is read, and both would be copied through memory.
-#[derive(Drop)]
+#[derive(Clone, Copy)]
 enum Begun {
     None,
     Refused(Refusal),

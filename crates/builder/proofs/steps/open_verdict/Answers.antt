@@ -1,0 +1,39 @@
+use borrow.Author.Rules.{rules}
+use Rattle.builder.proofs.StepReturns.{verdict_cases}
+use Rattle.builder.proofs.steps.open_verdict.Goals as goal
+
+pub disagrees-requires : goal.disagrees-requires
+disagrees-requires c = search (rules, verdict_cases)
+
+pub refused-requires : goal.refused-requires
+refused-requires c = search (rules, verdict_cases)
+
+pub returns-then-disagrees : goal.returns-then-disagrees
+returns-then-disagrees c = search (rules, verdict_cases)
+
+pub refused-requires-then-kind-gt3 : goal.refused-requires-then-kind-gt3
+refused-requires-then-kind-gt3 c = search (rules, verdict_cases)
+
+pub returns-then-kind-gt3 : goal.returns-then-kind-gt3
+returns-then-kind-gt3 c = search (rules, verdict_cases)
+
+pub span_fits-requires : goal.span_fits-requires
+span_fits-requires c = search (rules, verdict_cases)
+
+pub refused-requires-then-not-span_fits : goal.refused-requires-then-not-span_fits
+refused-requires-then-not-span_fits c = search (rules, verdict_cases)
+
+pub returns-then-not-span_fits : goal.returns-then-not-span_fits
+returns-then-not-span_fits c = search (rules, verdict_cases)
+
+pub refused-requires-then-depth-ge-MOST_OPEN : goal.refused-requires-then-depth-ge-MOST_OPEN
+refused-requires-then-depth-ge-MOST_OPEN c = search (rules, verdict_cases)
+
+pub returns-then-depth-ge-MOST_OPEN : goal.returns-then-depth-ge-MOST_OPEN
+returns-then-depth-ge-MOST_OPEN c = search (rules, verdict_cases)
+
+pub room_verdict-requires : goal.room_verdict-requires
+room_verdict-requires c = search (rules, verdict_cases)
+
+pub returns : goal.returns
+returns c = search (rules, verdict_cases)

@@ -1,0 +1,12 @@
+use borrow.Author.Rules.{rules}
+use Rattle.cursor.proofs.MovesReturns.{value_cases}
+use Rattle.cursor.proofs.cursor.Cursor.bump_or_end.Goals as goal
+
+pub at-at-requires : goal.at-at-requires
+at-at-requires c = search (rules, value_cases)
+
+pub bump_or_end-moved-requires : goal.bump_or_end-moved-requires
+bump_or_end-moved-requires c = search (rules, value_cases)
+
+pub returns : goal.returns
+returns c = search (rules, value_cases)

@@ -1,0 +1,22 @@
+use mathlib.Core.Path.{refl}
+use native.Mathlib.Omega.{arith}
+use Rattle.keys.proofs.Lists.{zeros_pos, zeros_most}
+use Rattle.distinct.proofs.GatherReturns.{filled_none}
+use borrow.Author.Rules.{rules}
+use Rattle.distinct.proofs.ClassReturns.{class_known}
+use Rattle.distinct.proofs.classes.count_class.Goals as goal
+
+pub slice_bounds-gather-end : goal.slice_bounds-gather-end
+slice_bounds-gather-end c = search (rules, class_known)
+
+pub slice_bounds-gather-end-2 : goal.slice_bounds-gather-end-2
+slice_bounds-gather-end-2 c = search (rules, class_known)
+
+pub slice_bounds-gather-end-3 : goal.slice_bounds-gather-end-3
+slice_bounds-gather-end-3 c = search (rules, class_known)
+
+pub gather-requires : goal.gather-requires
+gather-requires c = ((search (rules, class_known), search (rules, class_known), search (rules, class_known)), ((zeros_pos 65536 (omega arith), zeros_most 65536 1048576 (omega arith)), ((zeros_most 32768 1048576 (omega arith), refl), filled_none _ _ _ _ 65536 32768 _)))
+
+pub returns : goal.returns
+returns c = search (rules, class_known)

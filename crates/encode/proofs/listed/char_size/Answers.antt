@@ -1,0 +1,9 @@
+use borrow.Author.Rules.{rules}
+use Rattle.encode.proofs.ListedReturns.{tail_cases}
+use Rattle.encode.proofs.listed.char_size.Goals as goal
+
+pub returns-then-char-lt-ASCII : goal.returns-then-char-lt-ASCII
+returns-then-char-lt-ASCII c = search (rules, tail_cases)
+
+pub returns : goal.returns
+returns c = search (rules, tail_cases)

@@ -1,0 +1,22 @@
+use Prim.Native.Nat.{◌-◌}
+use borrow.Author.Rules.{rules}
+use Rattle.entries.proofs.TableReturns.{emit_cases}
+use Rattle.entries.proofs.table.emit.Goals as goal
+
+pub loop-k-init : goal.loop-k-init
+loop-k-init c = search (rules, emit_cases)
+
+pub emit_one-requires : goal.emit_one-requires
+emit_one-requires c = search (rules, emit_cases)
+
+pub overflow_add-k : goal.overflow_add-k
+overflow_add-k c = search (rules, emit_cases)
+
+pub loop-k-smaller : goal.loop-k-smaller
+loop-k-smaller c = search (rules, emit_cases)
+
+pub loop-k-preserved : goal.loop-k-preserved
+loop-k-preserved c = search (rules, emit_cases)
+
+pub returns : goal.returns
+returns c = search (rules, emit_cases)

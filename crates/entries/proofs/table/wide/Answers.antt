@@ -1,0 +1,11 @@
+use mathlib.Core.Path.{refl}
+use native.Mathlib.Omega.{arith}
+use Rattle.keys.proofs.Lists.{zeros_pos, zeros_most}
+use Rattle.order.proofs.ArrangeLaw.{counted_zeros}
+use Rattle.distinct.proofs.GatherReturns.{filled_none}
+use borrow.Author.Rules.{rules}
+use Rattle.entries.proofs.TableReturns.{zeros_le}
+use Rattle.entries.proofs.table.wide.Goals as goal
+
+pub through-requires : goal.through-requires
+through-requires c = ((search rules, search rules), ((zeros_pos 98304 (omega arith), zeros_most 98304 1048576 (omega arith), zeros_le 65536 98304 (omega arith)), ((refl, counted_zeros _ 4096), (filled_none _ _ 1 0 98304 65536 _, search rules))))

@@ -1,0 +1,12 @@
+use borrow.Author.Rules.{rules}
+use Rattle.export.proofs.ListCases.{List-cases}
+use Rattle.export.proofs.lists.tt_encode_list.Goals as goal
+
+pub encode_list-v-requires : goal.encode_list-v-requires
+encode_list-v-requires c = search (rules, List-cases)
+
+pub report_code-requires : goal.report_code-requires
+report_code-requires c = search (rules, List-cases)
+
+pub returns : goal.returns
+returns c = search (rules, List-cases)

@@ -1,0 +1,9 @@
+use borrow.Author.Rules.{rules}
+use Rattle.places.proofs.ResolveReturns.{stream_cases, symbols_inside}
+use Rattle.places.proofs.resolve.stream_symbols.Goals as goal
+
+pub place_run-requires : goal.place_run-requires
+place_run-requires c = search (rules, symbols_inside)
+
+pub returns : goal.returns
+returns c = search (rules, stream_cases)

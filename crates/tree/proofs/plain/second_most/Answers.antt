@@ -1,0 +1,15 @@
+use borrow.Author.Rules.{rules}
+use Rattle.tree.proofs.ListedLaws.{limit_cases}
+use Rattle.tree.proofs.plain.second_most.Goals as goal
+
+pub returns-in-0 : goal.returns-in-0
+returns-in-0 c = search (rules, limit_cases)
+
+pub returns-in-1 : goal.returns-in-1
+returns-in-1 c = search (rules, limit_cases)
+
+pub returns-in-2 : goal.returns-in-2
+returns-in-2 c = search (rules, limit_cases)
+
+pub returns-in_default : goal.returns-in_default
+returns-in_default c = search (rules, limit_cases)
