@@ -60,4 +60,8 @@ pub put_three-requires : goal.put_three-requires
 put_three-requires c = search (rules, pack_rests_cases)
 
 pub returns : goal.returns
-returns c = ⊎_elim (λ w. search (rules, pack_rests_cases)) (λ w. search (rules, pack_rests_cases)) c.if-not-heavy.branch
+returns c =
+    elim c.if-not-heavy.branch [
+      then-not-heavy+else-are_none+else-fit_second_word w ↦ search (rules, pack_rests_cases)
+    | else-not-heavy w ↦ search (rules, pack_rests_cases)
+    ]
