@@ -27,7 +27,7 @@ use Rattle.tree.specs.declared.raw.RawAt.{RawAt}
 use Rattle.tree.specs.declared.raw.RawTree.{RawTree}
 use Rattle.tree.specs.declared.raw.RawTree.TheVariants as raws
 use Rattle.tree.specs.declared.raw.RawRead.{RawRead}
-use Rattle.tree.specs.declared.raw.RawRead.TheVariants as rawReads
+use Rattle.tree.specs.declared.raw.RawRead.TheVariants as raw_reads
 use Rattle.tree.specs.declared.types.TokenTree.{TokenTree}
 use Rattle.tree.specs.declared.types.TokenTree.TheVariants as trees
 use Rattle.tree.specs.declared.types.Leaf.{Leaf}

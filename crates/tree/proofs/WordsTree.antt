@@ -29,7 +29,7 @@ use Rattle.tree.specs.declared.types.TokenTree.{TokenTree}
 use Rattle.tree.specs.declared.types.TokenTree.TheVariants as trees
 use Rattle.tree.specs.declared.words.WordsRead.{WordsRead}
 use Rattle.tree.specs.declared.words.WordsRead.TheVariants.{Got, Bad}
-use Rattle.tree.specs.declared.words.RawWords.TheVariants as raw-words
+use Rattle.tree.specs.declared.words.RawWords.TheVariants as raw_words
 use Rattle.tree.specs.declared.raw.RawTree.{RawTree}
 use Rattle.tree.specs.declared.kinds.SpacingRead.{SpacingRead}
 use Rattle.tree.specs.declared.kinds.SpacingRead.TheVariants as spacings

@@ -6,7 +6,7 @@ use Rattle.format.specs.Word.{put}
 use Rattle.export.proofs.unchecked.store_words.Given as goal
 
 abbrev pub invariant-loop-i : goal.invariant-loop-i
-invariant-loop-i l = (l.words ≡ put l.at l.from (take l.i l.initial.words)) × (l.i ≤ tree_size) × (length l.words ≡ length l.at) × (length l.initial.words ≡ tree_size) × (l.from + tree_size ≤ length l.at)
+invariant-loop-i l = (l.words ≡ put l.initial.words l.at (take l.i l.from)) × (l.i ≤ tree_size) × (length l.words ≡ length l.initial.words) × (length l.from ≡ tree_size) × (l.at + tree_size ≤ length l.initial.words)
 
 abbrev pub decreases-loop-i : goal.decreases-loop-i
 decreases-loop-i l = tree_size - l.i

@@ -5,7 +5,7 @@ use Rattle.places.specs.Places.{Copied}
 use Rattle.places.proofs.closes.copy.Given as goal
 
 abbrev pub invariant-loop-i : goal.invariant-loop-i
-invariant-loop-i l = (l.i ≤ l.initial.b) × (length l.b ≡ length l.m) × Copied l.i l.a l.b
+invariant-loop-i l = (l.i ≤ l.m) × (length l.b ≡ length l.initial.b) × Copied l.i l.a l.b
 
 abbrev pub decreases-loop-i : goal.decreases-loop-i
-decreases-loop-i l = l.initial.b - l.i
+decreases-loop-i l = l.m - l.i

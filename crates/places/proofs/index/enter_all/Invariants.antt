@@ -6,7 +6,7 @@ use Rattle.places.specs.Index.{Held}
 use Rattle.places.proofs.index.enter_all.Given as goal
 
 abbrev pub invariant-loop-i : goal.invariant-loop-i
-invariant-loop-i l = (l.i ≤ l.initial.slots) × (length l.slots ≡ length l.g) × Held (shift (key_at l.t l.layout) l.base) l.i l.slots
+invariant-loop-i l = (l.i ≤ l.g) × (length l.slots ≡ length l.initial.slots) × Held (shift (key_at l.t l.layout) l.base) l.i l.slots
 
 abbrev pub decreases-loop-i : goal.decreases-loop-i
-decreases-loop-i l = l.initial.slots - l.i
+decreases-loop-i l = l.g - l.i

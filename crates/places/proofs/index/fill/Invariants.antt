@@ -5,7 +5,7 @@ use Rattle.places.specs.Index.{Filled}
 use Rattle.places.proofs.index.fill.Given as goal
 
 abbrev pub invariant-loop-i : goal.invariant-loop-i
-invariant-loop-i l = (length l.t ≡ length l.v) × Filled l.initial.t l.i l.t
+invariant-loop-i l = (length l.t ≡ length l.initial.t) × Filled l.v l.i l.t
 
 abbrev pub decreases-loop-i : goal.decreases-loop-i
-decreases-loop-i l = length l.v - l.i
+decreases-loop-i l = length l.initial.t - l.i

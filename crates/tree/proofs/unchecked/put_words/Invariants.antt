@@ -5,7 +5,7 @@ use Rattle.format.specs.Word.{put}
 use Rattle.tree.proofs.unchecked.put_words.Given as goal
 
 abbrev pub invariant-loop-i : goal.invariant-loop-i
-invariant-loop-i l = (l.i ≤ length l.initial.list) × (length l.list ≡ length l.at) × (l.list ≡ put l.at l.words (take l.i l.initial.list))
+invariant-loop-i l = (l.i ≤ length l.words) × (length l.list ≡ length l.initial.list) × (l.list ≡ put l.initial.list l.at (take l.i l.words))
 
 abbrev pub decreases-loop-i : goal.decreases-loop-i
-decreases-loop-i l = length l.initial.list - l.i
+decreases-loop-i l = length l.words - l.i
