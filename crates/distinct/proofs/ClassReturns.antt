@@ -145,7 +145,7 @@ module _ (l : List ℕ) (s : Bool) (C k m N n q : ℕ) (tb f c : List ℕ) (F : 
       none = λ g. absurd (omega arith);
     }
 
-pub ruleset Class-cases = (kept, class_over, class_words, class_tallies, class_joined)
+pub ruleset class_cases = (kept, class_over, class_words, class_tallies, class_joined)
 
 -- ---- all classes
 

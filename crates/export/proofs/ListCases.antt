@@ -23,4 +23,4 @@ tables_stored l a b c d v r a' b' c' d' t e = record { reply = e ∙ ap tables_c
 pub list_stored : (parts symbols l work out : List ℕ) (v : Report) (r : ℕ) (work' out' : List ℕ) → Written parts symbols l work out v work' out' → r ≡ report_code v → ListStored parts symbols l work out r work' out'
 list_stored parts symbols l work out v r work' out' t e = record { reply = e ∙ ap report_code t.answer; words = t.works; bytes = t.outs }
 
-pub ruleset List-cases = (made_code, refused_tables, tables_stored, list_stored)
+pub ruleset list_cases = (made_code, refused_tables, tables_stored, list_stored)

@@ -159,7 +159,7 @@ module _ (b : List ℕ) where
       pub bundle_short : length (sizes_text bytes x.trees x.parts x.symbols) ≤ 327755 → length (lister_text b) ≤ 327755
       bundle_short l = subst (λ (z : List ℕ). length z ≤ 327755) text_is l
 
-pub ruleset List-cases = (over_text, over_short, bad_text, bad_short, start_inside, bundle_listed, bundle_short)
+pub ruleset list_cases = (over_text, over_short, bad_text, bad_short, start_inside, bundle_listed, bundle_short)
 
 -- ---- list_all
 

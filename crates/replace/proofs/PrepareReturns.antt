@@ -69,7 +69,7 @@ module _ (b : List ℕ) (k : ℕ) (parts symbols : List ℕ) (n : ℕ) (w : List
               ∙ put_behind a 0 old (omega arith) (list_work k) (omega arith);
         }
 
-pub ruleset List-cases = (checked, unpack_room, leaf_room, list_put, kept)
+pub ruleset list_cases = (checked, unpack_room, leaf_room, list_put, kept)
 
 -- ---- its tables
 

@@ -201,4 +201,4 @@ module _ (r : List ℕ) (t : TokenTree) where
   unfolding tree_words_of
   subtree_words_lem p x e f g = g ∙ rw (e, f)
 
-pub ruleset List-cases = (punct_words, ident_words, literal_words, leaf_words_lem, subtree_words_lem)
+pub ruleset list_cases = (punct_words, ident_words, literal_words, leaf_words_lem, subtree_words_lem)

@@ -186,7 +186,7 @@ module _ (l : List ℕ) (v : Verdict) (g : v ≡ verdict_answer (list_rules l)) 
   pub written_list : (p s work out : List ℕ) (r : Report) (work' out' : List ℕ) → Written p s (holding_all l) work out r work' out' → Written p s l work out r work' out'
   written_list p s work out r work' out' h = subst (λ (m : List ℕ). Written p s m work out r work' out') as_it_is h
 
-pub ruleset List-cases = (row_one_list, some_listed, most_listed, row_one_tables, sized, rules_refused, rules_passed, written_list)
+pub ruleset list_cases = (row_one_list, some_listed, most_listed, row_one_tables, sized, rules_refused, rules_passed, written_list)
 
 -- ---- the same where the root is taken to hold all others
 

@@ -21,7 +21,7 @@ pub place-closes-requires : goal.place-closes-requires
 place-closes-requires c = search (rules, found_cases)
 
 pub subtree_from-requires-2 : goal.subtree_from-requires-2
-subtree_from-requires-2 c = search (rules, close_cases)
+subtree_from-requires-2 c = (search (rules, found_cases), search (rules, close_cases), search rules)
 
 pub returns : goal.returns
 returns c = search (rules, found_cases)

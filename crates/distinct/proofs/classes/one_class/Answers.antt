@@ -16,7 +16,13 @@ pub slice_bounds-join_class-end-3 : goal.slice_bounds-join_class-end-3
 slice_bounds-join_class-end-3 c = search (rules, class_known)
 
 pub join_class-requires : goal.join_class-requires
-join_class-requires c = ((search (rules, class_known), search (rules, class_known), search (rules, class_known), search (rules, class_known)), ((zeros_pos 65536 (omega arith), zeros_most 65536 1048576 (omega arith)), ((zeros_most 32768 1048576 (omega arith), refl), (filled_none _ _ _ _ 65536 32768 _, (search (rules, class_known), search (rules, class_known))))))
+join_class-requires c = record {
+  n_value = search (rules, class_known);
+  table_nonzero = (zeros_pos 65536 (omega arith), zeros_most 65536 1048576 (omega arith));
+  firsts_len_bound = (zeros_most 32768 1048576 (omega arith), refl);
+  filled = filled_none _ _ _ _ 65536 32768 _;
+  room = search (rules, class_known);
+}
 
 pub returns : goal.returns
 returns c = search (rules, class_known)

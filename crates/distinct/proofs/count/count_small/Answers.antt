@@ -16,7 +16,12 @@ pub slice_bounds-gather-end-3 : goal.slice_bounds-gather-end-3
 slice_bounds-gather-end-3 c = search (rules, count_filled)
 
 pub gather-requires : goal.gather-requires
-gather-requires c = ((search (rules, count_filled), search (rules, count_filled), omega arith), ((zeros_pos 2048 (omega arith), zeros_most 2048 1048576 (omega arith)), ((zeros_most 1024 1048576 (omega arith), refl), filled_none _ _ 1 0 2048 1024 _)))
+gather-requires c = record {
+  n_value = (search (rules, count_filled), search (rules, count_filled), omega arith);
+  table_nonzero = (zeros_pos 2048 (omega arith), zeros_most 2048 1048576 (omega arith));
+  firsts_len_bound = (zeros_most 1024 1048576 (omega arith), refl);
+  filled = filled_none _ _ 1 0 2048 1024 _;
+}
 
 pub returns : goal.returns
 returns c = search (rules, count_filled)

@@ -25,8 +25,8 @@ returns-then-not-has_room c = search (rules, answer_cases)
 
 pub put_tree-requires : goal.put_tree-requires
 put_tree-requires c =
-    tree_passes _ _ _ _ _ _ c.tree_fits.ensures c.if-not-tree_fits.false _ c.indices_fit.ensures c.if-not-indices_fit.false _ c.tree_size.ensures _
-    c.has_room.ensures c.if-not-has_room.false
+    tree_passes _ _ _ _ _ _ c.tree_fits.ensures (search rules) _ c.indices_fit.ensures (search rules) _ c.tree_size-n.ensures _
+    c.has_room.ensures (search rules)
 
 pub returns : goal.returns
 returns c = search (rules, answer_cases)

@@ -22,8 +22,8 @@ returns-then-not-has_room c = search (rules, answer_cases)
 
 pub put_top-requires : goal.put_top-requires
 put_top-requires c =
-    tree_passes _ _ _ _ _ _ c.subtree_fits.ensures c.if-not-subtree_fits.false _ c.parts_fit.ensures c.if-not-parts_fit.false 33 (root_size _ _ _ _ _) _
-    c.has_room.ensures c.if-not-has_room.false
+    tree_passes _ _ _ _ _ _ c.subtree_fits.ensures (search rules) _ c.parts_fit.ensures (search rules) 33 (root_size _ _ _ _ _) _
+    c.has_room.ensures (search rules)
 
 pub returns : goal.returns
 returns c = search (rules, answer_cases)

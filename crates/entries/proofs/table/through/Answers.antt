@@ -15,7 +15,7 @@ finish-requires c =
   (
     (search (rules, through_cases), search (rules, through_cases), search (rules, through_cases)),
     (
-      through_filled _ _ _ _ _ _ _ _ _ c.gather-p.ensures c.if-room-p.false _ c.requires.0.0 c.gather-p.auto.1.1.1.1.1.0,
+      through_filled _ _ _ _ _ _ _ _ _ c.gather-p.ensures c.if-room-p.false _ c.requires.n_value.0 c.gather-p.auto.1.1.1.1.1.0,
       search (rules, through_cases),
     ),
   ),

@@ -33,7 +33,7 @@ loop-n-preserved c =
     let put = c in
     let read = put in
     let loop = read in
-    listed_next _ _ _ _ _ _ _ _ _ _ _ _ loop.loop-n.invariant loop.requires.1 read.loop-n-test.true _ read.tree_at.ensures _
+    listed_next _ _ _ _ _ _ _ _ _ _ _ _ loop.loop-n.invariant loop.requires.symbols_value read.loop-n-test.true _ read.tree_at.ensures _
     read.read-1.given.1 _ _ _ put.put_tree-done.ensures
 
 pub returns : goal.returns

@@ -6,7 +6,7 @@ pub are_whole-requires : goal.are_whole-requires
 are_whole-requires c = search (rules, resolve_cases)
 
 pub resolve_whole-requires : goal.resolve_whole-requires
-resolve_whole-requires c = (search indexed_whole, (search rules, search rules, search rules))
+resolve_whole-requires c = record { whole = search indexed_whole; le_from = search rules }
 
 pub returns-then-are_whole : goal.returns-then-are_whole
 returns-then-are_whole c = search (rules, resolve_cases)

@@ -18,11 +18,7 @@ pub build-requires : goal.build-requires
 build-requires c = search (rules, resolve_stream_cases)
 
 pub returns : goal.returns
-returns c =
-    let start = c in
-    let test = c.if-k-from in
-    let run = c.least-m in
-    let done = c.stream in (
-      stream_resolved _ _ _ _ _ _ _ _ _ _ start.requires.1.1.0 test.false run.ensures.2 done.ensures,
-      c.build.ensures,
-    )
+returns c = record {
+  resolved = stream_resolved _ _ _ _ _ _ _ _ _ _ c.requires.le_from.0 c.if-k-from.false c.least-m.ensures.2 c.stream.ensures;
+  indexed_2 = search rules;
+}
