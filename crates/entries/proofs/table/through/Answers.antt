@@ -9,17 +9,12 @@ pub returns-then-room-p : goal.returns-then-room-p
 returns-then-room-p c = search (rules, through_cases)
 
 pub finish-requires : goal.finish-requires
-finish-requires c =
-    (
-  (search (rules, through_cases), search (rules, through_cases)),
-  (
-    (search (rules, through_cases), search (rules, through_cases), search (rules, through_cases)),
-    (
-      through_filled _ _ _ _ _ _ _ _ _ c.gather-p.ensures c.if-room-p.false _ c.requires.n_value.0 c.gather-p.auto.1.1.1.1.1.0,
-      search (rules, through_cases),
-    ),
-  ),
-)
+finish-requires c = record {
+  p_bound = search (rules, through_cases);
+  p_in_bounds = search (rules, through_cases);
+  filled = through_filled _ _ _ _ _ _ _ _ _ c.gather-p.ensures c.if-room-p.false _ c.requires.n_value.0 c.gather-p.auto.table;
+  room = search (rules, through_cases);
+}
 
 pub returns : goal.returns
 returns c = search (rules, through_cases)
