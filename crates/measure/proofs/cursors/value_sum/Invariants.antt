@@ -8,7 +8,8 @@ use Rattle.measure.specs.Sum.{cursor_sum}
 use Rattle.measure.proofs.cursors.value_sum.Given as goal
 
 abbrev pub invariant-loop-left : goal.invariant-loop-left
-invariant-loop-left l =     (cursor_sum (own_reader l.b l.trees l.parts l.symbols) l.trees (2 * l.trees) fresh_cursor 0
+invariant-loop-left l =
+    (cursor_sum (own_reader l.b l.trees l.parts l.symbols) l.trees (2 * l.trees) fresh_cursor 0
     ≡ cursor_sum (own_reader l.b l.trees l.parts l.symbols) l.trees l.left (cursor_of (at_of l.cursor) l.cursor.numbers l.cursor.counts l.cursor.places) l.sum)
     × Arrays l.cursor.numbers l.cursor.counts l.cursor.places
 

@@ -7,9 +7,11 @@ use Rattle.tree.specs.Mode.{mode_of}
 use Rattle.passes.proofs.bytes.put_all.Given as goal
 
 abbrev pub invariant-loop-n : goal.invariant-loop-n
-invariant-loop-n l =     (1 ≤ l.n) × (l.n ≤ l.count) × Advanced (mode_of l.limits l.parts l.pair l.symbols) (holding_all l.l) 1 l.n l.initial.out l.out × (length l.out ≡ length l.initial.out)
-    × Ready l.limits.limit l.parts l.symbols part-slots symbol-slots l.opens l.closes l.syms
-    × Kept part-slots symbol-slots l.opens l.closes l.syms part-slots₀ symbol-slots₀ l.initial.opens l.initial.closes l.initial.syms
+invariant-loop-n l =
+    (1 ≤ l.n) × (l.n ≤ l.count) × Advanced (mode_of l.limits l.parts l.pair l.symbols) (holding_all l.l) 1 l.n l.initial.out l.out × (length l.out ≡ length l.initial.out)
+    × Ready l.limits.limit l.parts l.symbols l.part_slots l.symbol_slots l.opens l.closes l.syms
+    × Kept l.part_slots l.symbol_slots l.opens l.closes l.syms l.initial.part_slots l.initial.symbol_slots l.initial.opens l.initial.closes l.initial.syms
 
 abbrev pub decreases-loop-n : goal.decreases-loop-n
-decreases-loop-n l =     l.count - l.n
+decreases-loop-n l =
+    l.count - l.n

@@ -11,7 +11,12 @@ resolve-requires c = search (rules, put_from_cases)
 pub put_run-requires : goal.put_run-requires
 put_run-requires c =
     let p = c.requires in
-    (search (rules, put_from_cases), (search (rules, put_from_cases, p), (search (rules, put_from_cases, p), search (rules, put_from_cases, p))))
+    record {
+      passed = search (rules, put_from_cases);
+      run = search (rules, put_from_cases, p);
+      sized = search (rules, put_from_cases, p);
+      l_in_bounds = search (rules, put_from_cases, p);
+    }
 
 pub returns : goal.returns
 returns c = search (rules, put_from_cases)

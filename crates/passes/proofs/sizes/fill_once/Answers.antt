@@ -18,4 +18,4 @@ pub returns : goal.returns
 returns c =
     let p = c.size_root.ensures in
     let q = c.size_run.ensures in
-    (p.0, beyond_filled _ c.args.work.now _ _ p.1 q.1)
+    record { sized = p.sized_2; beyond = beyond_filled _ c.args.work.now _ _ p.beyond q.beyond }

@@ -11,7 +11,11 @@ bounds-work-count c = search (rules, fill_cases)
 pub size_all-requires : goal.size_all-requires
 size_all-requires c =
     let p = c.requires in
-    (search (rules, fill_cases, p), (search (rules, fill_cases, p), search (rules, fill_cases, p)))
+    record {
+      passed = search (rules, fill_cases, p);
+      ready = search (rules, fill_cases, p);
+      sized = search (rules, fill_cases, p);
+    }
 
 pub size_root-requires : goal.size_root-requires
 size_root-requires c = search (rules, fill_cases)
@@ -20,4 +24,8 @@ pub returns : goal.returns
 returns c =
     let p = c.size_root.ensures in
     let q = c.size_all.ensures in
-    (p.0, (beyond_filled _ c.args.work.now _ _ p.1 q.1.0, q.1.1))
+    record {
+      sized = p.sized_2;
+      beyond = beyond_filled _ c.args.work.now _ _ p.beyond q.beyond;
+      indexed = q.indexed;
+    }

@@ -5,8 +5,10 @@ use Rattle.tree.specs.Mode.{mode_of}
 use Rattle.passes.proofs.sizes.size_all.Given as goal
 
 abbrev pub invariant-loop-n : goal.invariant-loop-n
-invariant-loop-n l =     (1 ≤ l.n) × (l.n ≤ list_count l.l) × Sized (mode_of l.limits l.parts l.pair l.symbols) l.l l.n l.work × Beyond l.l l.work l.initial.work × Ready l.limits.limit l.parts l.symbols part-slots symbol-slots l.opens l.closes l.syms
-    × Kept part-slots symbol-slots l.opens l.closes l.syms part-slots₀ symbol-slots₀ l.initial.opens l.initial.closes l.initial.syms
+invariant-loop-n l =
+    (1 ≤ l.n) × (l.n ≤ list_count l.l) × Sized (mode_of l.limits l.parts l.pair l.symbols) l.l l.n l.work × Beyond l.l l.work l.initial.work × Ready l.limits.limit l.parts l.symbols l.part_slots l.symbol_slots l.opens l.closes l.syms
+    × Kept l.part_slots l.symbol_slots l.opens l.closes l.syms l.initial.part_slots l.initial.symbol_slots l.initial.opens l.initial.closes l.initial.syms
 
 abbrev pub decreases-loop-n : goal.decreases-loop-n
-decreases-loop-n l =     l.n
+decreases-loop-n l =
+    l.n

@@ -11,7 +11,11 @@ resolve-requires c = search (rules, size_all_cases)
 pub size_run-requires : goal.size_run-requires
 size_run-requires c =
     let p = c.requires in
-    (search (rules, size_all_cases), (search (rules, size_all_cases, p), search (rules, size_all_cases, p)))
+    record {
+      passed = search (rules, size_all_cases);
+      run = search (rules, size_all_cases, p);
+      sized = search (rules, size_all_cases, p);
+    }
 
 pub returns : goal.returns
 returns c = search (rules, size_all_cases)

@@ -1,5 +1,5 @@
 use borrow.Author.Rules.{rules}
-use Rattle.unpack.proofs.WordsReturns.{raw_cases, close_cases}
+use Rattle.unpack.proofs.WordsReturns.{raw_cases, open_cases, close_cases}
 use Rattle.unpack.proofs.words.raw_words.Goals as goal
 
 pub enum_known-tree : goal.enum_known-tree
@@ -45,7 +45,7 @@ pub place-closes-requires : goal.place-closes-requires
 place-closes-requires c = search (rules, raw_cases)
 
 pub subtree_words-requires-in-Subtree : goal.subtree_words-requires-in-Subtree
-subtree_words-requires-in-Subtree c = search (rules, close_cases)
+subtree_words-requires-in-Subtree c = (search (rules, open_cases), search (rules, close_cases))
 
 pub returns-in-Punct : goal.returns-in-Punct
 returns-in-Punct c = search (rules, raw_cases)

@@ -5,7 +5,8 @@ use Rattle.walk.specs.Last.{last_in}
 use Rattle.walk.proofs.last_span.last_in.Given as goal
 
 abbrev pub invariant-loop-found : goal.invariant-loop-found
-invariant-loop-found l =     let M = mode_of l.limits l.parts l.pair l.symbols in
+invariant-loop-found l =
+    let M = mode_of l.limits l.parts l.pair l.symbols in
     last_in l.b l.trees M (walk_of l.initial.here) ≡ last_in l.b l.trees M (walk_of l.here)
 
 abbrev pub decreases-loop-found : goal.decreases-loop-found
