@@ -295,7 +295,7 @@ pub ruleset once_cases = (once_refused, once_passed, once_fits)
 
 pub ruleset write_once_cases = (ready_roomy, ready_indexed, run_whole, ruled_some)
 
-pub ruleset Class-cases = (zeros_lent)
+pub ruleset lent_cases = (zeros_lent)
 
 -- ---- row 6
 

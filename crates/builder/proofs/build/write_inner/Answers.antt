@@ -10,3 +10,9 @@ encode_list-requires c = search (rules, front_cases)
 
 pub returns : goal.returns
 returns c = search (rules, front_cases)
+
+pub slice_bounds-encode_list-start : goal.slice_bounds-encode_list-start
+slice_bounds-encode_list-start c = search (rules, front_cases)
+
+pub slice_bounds-encode_list-end : goal.slice_bounds-encode_list-end
+slice_bounds-encode_list-end c = search (rules, front_cases)

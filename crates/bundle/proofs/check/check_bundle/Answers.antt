@@ -25,3 +25,9 @@ check-requires c = search (rules, check_cases)
 
 pub returns : goal.returns
 returns c = search (rules, check_cases)
+
+pub slice_bounds-check-start : goal.slice_bounds-check-start
+slice_bounds-check-start c = search (rules, check_cases)
+
+pub slice_bounds-check-end : goal.slice_bounds-check-end
+slice_bounds-check-end c = search (rules, check_cases)

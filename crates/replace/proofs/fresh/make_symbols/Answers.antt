@@ -13,3 +13,9 @@ make_table-requires c = search (rules, symbol_cases)
 
 pub returns : goal.returns
 returns c = search (rules, symbol_cases)
+
+pub slice_bounds-make_table-start : goal.slice_bounds-make_table-start
+slice_bounds-make_table-start c = search (rules, symbol_cases)
+
+pub slice_bounds-make_table-end : goal.slice_bounds-make_table-end
+slice_bounds-make_table-end c = search (rules, symbol_cases)

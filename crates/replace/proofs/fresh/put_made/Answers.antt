@@ -25,3 +25,15 @@ put_fresh-requires c = search (rules, made_cases)
 
 pub returns : goal.returns
 returns c = search (rules, made_cases)
+
+pub slice_bounds-put_fresh-start : goal.slice_bounds-put_fresh-start
+slice_bounds-put_fresh-start c = search (rules, made_cases)
+
+pub slice_bounds-put_fresh-end : goal.slice_bounds-put_fresh-end
+slice_bounds-put_fresh-end c = search (rules, made_cases)
+
+pub slice_bounds-put_fresh-start-2 : goal.slice_bounds-put_fresh-start-2
+slice_bounds-put_fresh-start-2 c = search (rules, made_cases)
+
+pub slice_bounds-put_fresh-end-2 : goal.slice_bounds-put_fresh-end-2
+slice_bounds-put_fresh-end-2 c = search (rules, made_cases)

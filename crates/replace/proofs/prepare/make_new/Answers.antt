@@ -19,3 +19,9 @@ make_tables-requires c = search (rules, new_cases)
 
 pub returns : goal.returns
 returns c = search (rules, new_cases)
+
+pub slice_bounds-make_tables-start : goal.slice_bounds-make_tables-start
+slice_bounds-make_tables-start c = search (rules, new_cases)
+
+pub slice_bounds-make_tables-end : goal.slice_bounds-make_tables-end
+slice_bounds-make_tables-end c = search (rules, new_cases)

@@ -28,3 +28,9 @@ returns-in-Refused c = search (rules, preview_cases)
 
 pub returns-in-Made : goal.returns-in-Made
 returns-in-Made c = search (rules, preview_cases)
+
+pub slice_bounds-sizes_made-start : goal.slice_bounds-sizes_made-start
+slice_bounds-sizes_made-start c = search (rules, preview_cases)
+
+pub slice_bounds-sizes_made-end : goal.slice_bounds-sizes_made-end
+slice_bounds-sizes_made-end c = search (rules, preview_cases)

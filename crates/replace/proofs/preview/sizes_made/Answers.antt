@@ -16,3 +16,9 @@ fresh_sizes-requires c = search (rules, found_cases)
 
 pub returns : goal.returns
 returns c = search (rules, found_cases)
+
+pub slice_bounds-symbols-end : goal.slice_bounds-symbols-end
+slice_bounds-symbols-end c = search (rules, found_cases)
+
+pub slice_bounds-fresh_sizes-end : goal.slice_bounds-fresh_sizes-end
+slice_bounds-fresh_sizes-end c = search (rules, found_cases)

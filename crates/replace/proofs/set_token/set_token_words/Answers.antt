@@ -28,3 +28,9 @@ returns-in-Refused c = search (rules, set_cases)
 
 pub returns-in-Made : goal.returns-in-Made
 returns-in-Made c = search (rules, set_cases)
+
+pub slice_bounds-put_made-start : goal.slice_bounds-put_made-start
+slice_bounds-put_made-start c = search (rules, set_cases)
+
+pub slice_bounds-put_made-end : goal.slice_bounds-put_made-end
+slice_bounds-put_made-end c = search (rules, set_cases)

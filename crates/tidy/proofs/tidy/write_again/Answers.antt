@@ -19,3 +19,9 @@ write_own-requires c = search (rules, again_cases)
 
 pub returns : goal.returns
 returns c = search (rules, again_cases)
+
+pub slice_bounds-write_own-start : goal.slice_bounds-write_own-start
+slice_bounds-write_own-start c = search (rules, again_cases)
+
+pub slice_bounds-write_own-end : goal.slice_bounds-write_own-end
+slice_bounds-write_own-end c = search (rules, again_cases)

@@ -10,7 +10,7 @@ write_run-requires c =
     let p = c.requires in
     let q = c.resolve.ensures in
     let r = c.resolve.auto in
-    (search (rules, write_once_cases, p, q, r), search (rules, write_once_cases, p, q, r))
+    record { ruled = search (rules, write_once_cases, p, q, r); run = search (rules, write_once_cases, p, q, r) }
 
 pub returns : goal.returns
 returns c = search (rules, write_once_cases)

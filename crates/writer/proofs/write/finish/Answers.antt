@@ -17,7 +17,12 @@ returns-then-out-total c = search (rules, finish_cases)
 pub put_list-requires : goal.put_list-requires
 put_list-requires c =
     let p = c.requires in
-    (search (rules, finish_cases, p), (search (rules, finish_cases, p), (search (rules, finish_cases, p), search (rules, finish_cases, p))))
+    record {
+      passed = search (rules, finish_cases, p);
+      ready = search (rules, finish_cases, p);
+      sized = search (rules, finish_cases, p);
+      count_bound = search (rules, finish_cases, p);
+    }
 
 pub returns : goal.returns
 returns c =

@@ -1,3 +1,4 @@
+use mathlib.Core.Path.{refl}
 use borrow.Author.Rules.{rules}
 use Rattle.writer.proofs.EncodeReturns.{built_cases, five_passed}
 use Rattle.writer.proofs.write.write_built.Goals as goal
@@ -19,8 +20,10 @@ write_passed-requires c =
     let p = c.requires in
     let q = c.row_five.ensures in
     let r = c.row_five.auto in
-    let e = c.enum_told-1.given.1 in
-    (five_passed _ _ p.0 _ q.0 e, search (rules, built_cases, p, q, r))
+    record {
+      passed = five_passed _ _ p.ruled _ c.in-Passed.ensures.value refl;
+      ready = search (rules, built_cases, p, q, r);
+    }
 
 pub enum_known-at : goal.enum_known-at
 enum_known-at c = search (rules, built_cases)

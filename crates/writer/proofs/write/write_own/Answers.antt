@@ -19,3 +19,9 @@ write_ruled-requires c = search (rules, own_cases)
 
 pub returns : goal.returns
 returns c = search (rules, own_cases)
+
+pub slice_bounds-pair-start : goal.slice_bounds-pair-start
+slice_bounds-pair-start c = search (rules, own_cases)
+
+pub slice_bounds-pair-end : goal.slice_bounds-pair-end
+slice_bounds-pair-end c = search (rules, own_cases)

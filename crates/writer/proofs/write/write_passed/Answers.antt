@@ -11,14 +11,22 @@ returns-then-work-l c = search (rules, passed_cases)
 pub fill_work-requires : goal.fill_work-requires
 fill_work-requires c =
     let p = c.requires in
-    (search (rules, passed_cases, p), (search (rules, passed_cases, p), search (rules, passed_cases, p)))
+    record {
+      passed = search (rules, passed_cases, p);
+      ready = search (rules, passed_cases, p);
+      l_in_bounds = search (rules, passed_cases, p);
+    }
 
 pub finish-requires : goal.finish-requires
 finish-requires c =
     let p = c.requires in
     let q = c.fill_work.ensures in
     let r = c.fill_work.auto in
-    (search (rules, passed_cases, p, q, r), (search (rules, passed_cases, p, q, r), search (rules, passed_cases, p, q, r)))
+    record {
+      passed = search (rules, passed_cases, p, q, r);
+      ready = search (rules, passed_cases, p, q, r);
+      sized = search (rules, passed_cases, p, q, r);
+    }
 
 pub returns : goal.returns
 returns c =

@@ -1,27 +1,27 @@
 use native.Mathlib.Omega.{arith}
 use borrow.Author.Rules.{rules}
-use Rattle.writer.proofs.EncodeReturns.{Class-cases, zeros_lent}
+use Rattle.writer.proofs.EncodeReturns.{lent_cases, zeros_lent}
 use Rattle.writer.proofs.write.write_small.Goals as goal
 
 pub slice_bounds-write_with-end : goal.slice_bounds-write_with-end
-slice_bounds-write_with-end c = search (rules, Class-cases)
+slice_bounds-write_with-end c = search (rules, lent_cases)
 
 pub slice_bounds-write_with-end-2 : goal.slice_bounds-write_with-end-2
-slice_bounds-write_with-end-2 c = search (rules, Class-cases)
+slice_bounds-write_with-end-2 c = search (rules, lent_cases)
 
 pub slice_bounds-write_with-end-3 : goal.slice_bounds-write_with-end-3
-slice_bounds-write_with-end-3 c = search (rules, Class-cases)
+slice_bounds-write_with-end-3 c = search (rules, lent_cases)
 
 pub slice_bounds-write_with-end-4 : goal.slice_bounds-write_with-end-4
-slice_bounds-write_with-end-4 c = search (rules, Class-cases)
+slice_bounds-write_with-end-4 c = search (rules, lent_cases)
 
 pub slice_bounds-write_with-end-5 : goal.slice_bounds-write_with-end-5
-slice_bounds-write_with-end-5 c = search (rules, Class-cases)
+slice_bounds-write_with-end-5 c = search (rules, lent_cases)
 
 pub write_with-requires : goal.write_with-requires
 write_with-requires c =
     let w = c.requires in
-    (w, zeros_lent _ _ w 2048 2048 1024 (omega arith) (omega arith) (omega arith) (omega arith) (omega arith))
+    record { ruled = w; lent = zeros_lent _ _ w 2048 2048 1024 (omega arith) (omega arith) (omega arith) (omega arith) (omega arith) }
 
 pub returns : goal.returns
-returns c = search (rules, Class-cases)
+returns c = search (rules, lent_cases)

@@ -10,7 +10,7 @@ write_built-requires c =
     let p = c.requires in
     let q = c.build.ensures in
     let r = c.build.auto in
-    (search (rules, with_cases, p, q, r), search (rules, with_cases, p, q, r))
+    record { ruled = search (rules, with_cases, p, q, r); ready = search (rules, with_cases, p, q, r) }
 
 pub returns : goal.returns
 returns c = search (rules, with_cases)
