@@ -18,7 +18,7 @@ pub put_outputs-requires : goal.put_outputs-requires
 put_outputs-requires c =
     let fit = c.tables_fit.ensures in
     let yes = c.if-not-tables_fit.false in
-    (search (rules, put_cases), tables_ample _ _ _ _ _ fit yes)
+    record { tables_bound = search (rules, put_cases); parts_in_bounds = tables_ample _ _ _ _ _ fit yes }
 
 pub enum_known-why : goal.enum_known-why
 enum_known-why c = search (rules, put_cases)

@@ -1,3 +1,4 @@
+use mathlib.Core.Path.{refl}
 use borrow.Author.Rules.{rules}
 use Rattle.unpack.proofs.WorkReturns.{work_ample}
 use Rattle.replace.proofs.PrepareReturns.{prepare_cases, rows_passed}
@@ -20,11 +21,10 @@ returns-then-not-work_fits c = search (rules, prepare_cases)
 
 pub make_new-made-requires : goal.make_new-made-requires
 make_new-made-requires c =
-    let judged = c.replace_verdict.ensures in
-    let told = c.enum_told-1.given.1 in
+    let judged = c.in-Passed.ensures in
     let works = c.work_fits.ensures in
     let ample = c.if-not-work_fits.false in
-    (rows_passed _ _ _ _ _ _ _ judged told, work_ample _ _ _ _ _ works ample)
+    record { leaf_value = rows_passed _ _ _ _ _ _ _ judged refl; trees_in_bounds = work_ample _ _ _ _ _ works ample }
 
 pub returns-in-Refused : goal.returns-in-Refused
 returns-in-Refused c = search (rules, prepare_cases)
