@@ -34,9 +34,3 @@ list_buffer-requires c = search (rules, list_cases)
 
 pub returns : goal.returns
 returns c = search (rules, list_cases)
-
-pub slice_bounds-list_buffer-start : goal.slice_bounds-list_buffer-start
-slice_bounds-list_buffer-start c = search (rules, List-cases)
-
-pub slice_bounds-list_buffer-end : goal.slice_bounds-list_buffer-end
-slice_bounds-list_buffer-end c = search (rules, List-cases)
