@@ -1,7 +1,7 @@
 -- One law for each return and call of the functions that list a buffer and a bundle.
 use Prim.Native.Nat.{ℕ, ◌+◌, ◌-◌, ◌≤◌, ◌<◌}
 use mathlib.Core.Path.{◌≡◌, sym, ap, ◌∙◌, subst}
-use mathlib.Core.List.{List, ◌++◌}
+use mathlib.Core.List.{List}
 use native.Mathlib.Omega.{arith}
 use borrow.Author.Tests.{lt-ltb, le-ltb, eq-eqb, ne_eqb}
 use lib.Dec.{eqb}
@@ -16,7 +16,7 @@ use Rattle.format.specs.Check.{check}
 use Rattle.format.specs.Buffer.{raw_shape, size_reader}
 use Rattle.format.specs.Bundle.{bundle_at, check_of}
 use Rattle.format.specs.Lister.{refusal_line, header, line, bundle_text, lister_text}
-use Rattle.io.specs.Counts.{IsPrefixLen}
+use Rattle.lister.specs.Counts.{IsPrefixLen}
 use Rattle.text.specs.Typed.{Typed}
 use Rattle.text.proofs.Typed.{next_inside, typed_then, typed_as, typed_whole}
 use Rattle.tree.specs.Refusal.{verdict_answer}
