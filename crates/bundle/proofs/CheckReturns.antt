@@ -7,13 +7,10 @@ use Rattle.format.specs.Verdict as format
 use Rattle.format.specs.Check.{check}
 use Rattle.format.specs.Buffer.{raw_shape, size_reader}
 use Rattle.format.specs.Bundle as bundles
-use Rattle.format.specs.Bundle.{bundle_at, bundle_check, number_of}
+use Rattle.format.specs.Bundle.{bundle_at, bundle_check}
 use Rattle.format.proofs.BundleLaw.{sizes_of, bundle_by_sizes}
 use Rattle.tree.specs.Refusal.{verdict_answer}
-use Rattle.tree.proofs.Answers.{answer_passed, answer_refused}
-use Rattle.tree.specs.declared.refusal.Refusal.{Refusal}
 use Rattle.tree.specs.declared.refusal.Verdict.{Verdict}
-use Rattle.tree.specs.declared.refusal.Verdict.TheVariants.{Passed, Refused}
 use Rattle.bundle.specs.Answer.{read_answer}
 use Rattle.bundle.specs.declared.read.Contents.{Contents}
 use Rattle.bundle.specs.declared.read.BundleRead.{BundleRead}
@@ -38,14 +35,3 @@ module _ (b : List ℕ) (r : BundleRead) (e : r ≡ read_answer b (bundle_at b))
       f ∙ ap verdict_answer (c ∙ sym (bundle_by_sizes b ∙ ap sizes_of t.reads))
 
 pub ruleset check_cases = (start_inside, bundle_one, bundle_checked)
-
--- ---- tt_check_bundle
-
-module _ (v : format.Verdict) (z : Verdict) (e : z ≡ verdict_answer v) where
-  pub number_passed : z ≡ Passed → 0 ≡ number_of v
-  number_passed q = sym (ap number_of (answer_passed v (sym e ∙ q)))
-
-  pub number_refused : (x : Refusal) → z ≡ Refused x → x.number ≡ number_of v
-  number_refused x q = sym (ap number_of (answer_refused v x (sym e ∙ q)))
-
-pub ruleset number_cases = (number_passed, number_refused)

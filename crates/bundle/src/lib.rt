@@ -1,4 +1,4 @@
-// A bundle, which is a stored buffer with its tables and tree count, and its check, also for a Rust or C host.
+// A bundle, which is a stored buffer with its tables and tree count, and its check.
 #![tactic(auto)]
 
 pub mod check;

@@ -16,7 +16,7 @@ use Rattle.format.specs.Check.{check}
 use Rattle.format.specs.Buffer.{raw_shape, size_reader}
 use Rattle.format.specs.Bundle.{bundle_at, check_of}
 use Rattle.format.specs.Lister.{refusal_line, header, line, bundle_text, lister_text}
-use Rattle.io.specs.Counts.{IsPrefixLen}
+use Rattle.lister.specs.Counts.{IsPrefixLen}
 use Rattle.text.specs.Typed.{Typed}
 use Rattle.text.proofs.Typed.{next_inside, typed_then, typed_as, typed_whole}
 use Rattle.tree.specs.Refusal.{verdict_answer}

@@ -1,3 +1,4 @@
 pub mod BySizes
+pub mod Counts
 pub mod Ends
 pub mod TreePut

@@ -2,10 +2,12 @@
 #![tactic(auto)]
 
 ghost use Rattle.std.specs.Prelude.{◌≡◌, ◌≤◌, length, take};
-ghost use Rattle.io.specs.Counts.{IsPrefixLen};
 ghost use Rattle.format.specs.Lister.{lister_text};
+ghost use Rattle.lister.specs.Counts.{IsPrefixLen};
 
 use crate::list::list_bundle;
+use std::io;
+use std::io::{Read, Write};
 
 mod depth;
 mod lines;
@@ -13,7 +15,7 @@ mod list;
 mod loose;
 
 // One byte more than is taken, so that more is seen.
-const INPUT: usize = 65537;
+const INPUT: u64 = 65537;
 
 // No text is longer: five bytes for each byte taken, and the header.
 const TEXT: usize = 327755;
@@ -27,10 +29,10 @@ fn list_all(b: &[u8], text: &mut [u8]) -> usize
     list_bundle(text, b)
 }
 
-fn main() {
-    let mut input = [0u8; INPUT];
-    let mut text = [0u8; TEXT];
-    let n = io::read_full(libc::STDIN_FILENO, &mut input);
-    let m = list_all(&input[..n], &mut text);
-    io::write_all(libc::STDOUT_FILENO, &text[..m]);
+fn main(rt: HostRuntime) -> io::Result<()> {
+    let mut input = Vec::new(rt.alloc());
+    rt.reader().take(INPUT).read_to_end(&mut input)?;
+    let mut text = Vec::from_elem(rt.alloc(), 0u8, TEXT)?;
+    let m = list_all(&input, &mut text);
+    io::writer(&rt).write_all(&text[..m])
 }

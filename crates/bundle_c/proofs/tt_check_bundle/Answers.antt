@@ -1,6 +1,6 @@
 use borrow.Author.Rules.{rules}
-use Rattle.bundle.proofs.CheckReturns.{number_cases}
-use Rattle.bundle.proofs.check.tt_check_bundle.Goals as goal
+use Rattle.bundle_c.proofs.NumberReturns.{number_cases}
+use Rattle.bundle_c.proofs.tt_check_bundle.Goals as goal
 
 pub check_bundle-verdict-requires : goal.check_bundle-verdict-requires
 check_bundle-verdict-requires c = search (rules, number_cases)

@@ -1,0 +1,20 @@
+// The check of a bundle for a Rust or C host.
+#![tactic(auto)]
+
+ghost use Rattle.std.specs.Prelude.{◌≡◌};
+ghost use Rattle.format.specs.Bundle.{bundle_check, number_of};
+
+use bundle::check::check_bundle;
+use tree::refusal::Verdict;
+
+// The check's number, 0 for passed.
+#[unsafe(no_mangle)]
+pub extern "C" fn tt_check_bundle(b: &[u8]) -> u32
+    ensures { result ≡ number_of (bundle_check b.now) }
+{
+    let verdict = check_bundle(b);
+    match verdict {
+        Verdict::Passed => 0,
+        Verdict::Refused(refusal) => refusal.number,
+    }
+}
