@@ -1,4 +1,4 @@
-// For build scripts: finds a static library that `rt staticlib NAME` writes, in the folder that a variable of the environment names, or in
+// For build scripts: finds a static library that tools/static-library NAME writes, in the folder that a variable of the environment names, or in
 // the repository's target/staticlib. A relative folder counts from that of the crate.
 use std::env;
 use std::path::PathBuf;
@@ -15,7 +15,7 @@ pub fn link(name: &str, variable: &str) {
     }
     if !library.is_file() {
         let library = library.display();
-        fail(&format!("{library} is missing: run `rt staticlib {name}` at the top of the repository, or set {variable} to the folder that has it"));
+        fail(&format!("{library} is missing: run tools/static-library {name}, or set {variable} to the folder that has it"));
     }
     println!("cargo:rustc-link-search=native={}", folder.display());
     println!("cargo:rustc-link-lib=static={name}");

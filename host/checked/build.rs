@@ -1,4 +1,4 @@
-//! Finds libbundle.a, which `rt staticlib bundle` writes: in the folder TT_BUNDLE_LIB, or in the repository's target/staticlib.
+//! Finds libbundle.a, which tools/static-library bundle writes: in the folder TT_BUNDLE_LIB, or in the repository's target/staticlib.
 //! A relative TT_BUNDLE_LIB counts from the folder of this crate.
 #[path = "../static_library.rs"]
 mod static_library;

@@ -1,4 +1,4 @@
-/* The check of a stored bundle of packed token trees. Link with libbundle.a, which `rt staticlib bundle` writes (x86-64). */
+/* The check of a stored bundle of packed token trees. Link with libbundle.a, which tools/static-library bundle writes (x86-64). */
 #ifndef TT_CHECK_H
 #define TT_CHECK_H
 

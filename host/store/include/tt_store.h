@@ -1,5 +1,5 @@
 /* Stored buffers of packed token trees: one leaf exchanged, the size before that, and a buffer put in order. Link with libstore.a, which
- * `rt staticlib store` writes (x86-64). */
+ * tools/static-library store writes (x86-64). */
 #ifndef TT_STORE_H
 #define TT_STORE_H
 
