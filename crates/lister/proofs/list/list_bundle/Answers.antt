@@ -23,6 +23,9 @@ put_refusal-requires-in_default c = search (rules, list_cases)
 pub returns-in_default : goal.returns-in_default
 returns-in_default c = search (rules, list_cases)
 
+pub slice_bounds-list_buffer-start : goal.slice_bounds-list_buffer-start
+slice_bounds-list_buffer-start c = search (rules, list_cases)
+
 pub slice_bounds-list_buffer-count : goal.slice_bounds-list_buffer-count
 slice_bounds-list_buffer-count c = search (rules, list_cases)
 

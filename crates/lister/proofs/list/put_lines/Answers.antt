@@ -1,6 +1,4 @@
-use Prim.Native.Nat.{◌-◌}
 use borrow.Author.Rules.{rules}
-use Rattle.lister.proofs.Listed.{listed_next}
 use Rattle.lister.proofs.ListReturns.{lines_cases}
 use Rattle.lister.proofs.list.put_lines.Goals as goal
 
@@ -29,12 +27,7 @@ pub loop-n-smaller : goal.loop-n-smaller
 loop-n-smaller c = search (rules, lines_cases)
 
 pub loop-n-preserved : goal.loop-n-preserved
-loop-n-preserved c =
-    let put = c in
-    let read = put in
-    let loop = read in
-    listed_next _ _ _ _ _ _ _ _ _ _ _ _ loop.loop-n.invariant loop.requires.symbols_value read.loop-n-test.true _ read.tree_at.ensures _
-    read.read-1.given.1 _ _ _ put.put_tree-done.ensures
+loop-n-preserved c = search (rules, lines_cases)
 
 pub returns : goal.returns
 returns c = search (rules, lines_cases)
