@@ -1,5 +1,4 @@
 -- One law for each return of the host's number.
-use Prim.Native.Nat.{ℕ}
 use mathlib.Core.Path.{◌≡◌, sym, ap, ◌∙◌}
 use Rattle.format.specs.Verdict as format
 use Rattle.format.specs.Bundle.{number_of}

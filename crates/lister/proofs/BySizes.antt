@@ -2,7 +2,7 @@
 use Prim.Native.Nat.{ℕ, zero, suc, ◌+◌, ◌-◌, ◌/◌, ◌%◌, ◌≤◌}
 use mathlib.Core.Bool.{Bool, true, false, ◌&&◌}
 use mathlib.Core.Path.{◌≡◌, refl, sym, ap, ◌∙◌}
-use mathlib.Core.List.{List, ◌++◌}
+use mathlib.Core.List.{List}
 use borrow.Author.Tests.{eqb-true, eq-eqb, le-ltb}
 use lib.Dec.{eqb, leb}
 use lib.ListN.{length, drop}
@@ -17,8 +17,8 @@ use Rattle.format.specs.Width.{part_size}
 use Rattle.format.specs.Tables.{rules, row_eight, limits, tree_words, own_mode, own_tables, count_rules, tables_sized}
 use Rattle.format.specs.Buffer.{formed, judge, word_shape, raw_shape, own_reader, size_reader, buffer_check}
 use Rattle.format.specs.Bundle.{Bundle, bundle, bundle_at, check_of}
-use Rattle.format.specs.Loose.{loose_at, loose_from}
-use Rattle.format.specs.Lister.{header, sort_word, tree_line, tree_lines, buffer_lines, buffer_loose, bundle_text, lister_text}
+use Rattle.format.specs.Loose.{loose_from}
+use Rattle.format.specs.Lister.{sort_word, tree_line, tree_lines, buffer_lines, buffer_loose, bundle_text, lister_text}
 use Rattle.format.proofs.Each.{and_left, and_right}
 use Rattle.format.proofs.Sight.{place_same, sub_same, end_same, Alike}
 use Rattle.format.proofs.RawReader.{raw_alike, mode_telling}

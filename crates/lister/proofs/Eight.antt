@@ -12,8 +12,8 @@ use Rattle.format.specs.Word.{byte_at, word_at}
 use Rattle.format.specs.Span.{Span, SpanRead, span, span_at, span₁, span₂, span₃, SymbolRead, symbol, symbol_at}
 use Rattle.format.specs.Reader.{Reply, got, bad}
 use Rattle.format.specs.Tree.{Raw, punct, bits_agree, need, ident_of, literal_of, closed101, form111, controlled, after_span, tree_at}
-use Rattle.format.specs.Loose.{Loose, is_loose, loose_read, loose_by, loose_after, loose_at}
-use Rattle.format.proofs.TreeBounds.{choice, Spanned, span_within, Symboled, symbol_within}
+use Rattle.format.specs.Loose.{is_loose, loose_read, loose_by, loose_after, loose_at}
+use Rattle.format.proofs.TreeBounds.{choice, Symboled, symbol_within}
 use Rattle.format.proofs.LooseLaw.{loose_4}
 
 held : (p q : ℕ) (x : Bool) → p + 8 ≤ q → p + 8 * (if x then 1 else 0) ≤ q

@@ -1,4 +1,3 @@
-use Prim.Native.Nat.{◌-◌}
 use borrow.Author.Rules.{rules}
 use Rattle.bundle.proofs.ReadReturns.{read_cases}
 use Rattle.bundle.proofs.read.read_bundle.Goals as goal

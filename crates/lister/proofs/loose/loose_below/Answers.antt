@@ -1,4 +1,3 @@
-use Prim.Native.Nat.{◌-◌}
 use borrow.Author.Rules.{rules}
 use Rattle.lister.proofs.ListReturns.{loose_cases}
 use Rattle.lister.proofs.loose.loose_below.Goals as goal

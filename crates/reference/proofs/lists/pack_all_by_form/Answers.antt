@@ -1,4 +1,3 @@
-use Prim.Native.Nat.{◌-◌}
 use borrow.Author.Rules.{rules}
 use Rattle.reference.proofs.ListReturns.{pack_all_cases}
 use Rattle.reference.proofs.lists.pack_all_by_form.Goals as goal
