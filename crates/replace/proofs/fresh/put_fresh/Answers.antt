@@ -1,3 +1,5 @@
+use mathlib.Core.Bool.{not}
+use mathlib.Core.Path.{ap}
 use borrow.Author.Rules.{rules}
 use Rattle.replace.proofs.FreshReturns.{put_cases, tables_ample}
 use Rattle.replace.proofs.fresh.put_fresh.Goals as goal
@@ -18,7 +20,7 @@ pub put_outputs-requires : goal.put_outputs-requires
 put_outputs-requires c =
     let fit = c.tables_fit.ensures in
     let yes = c.if-not-tables_fit.false in
-    record { tables_bound = search (rules, put_cases); parts_in_bounds = tables_ample _ _ _ _ _ fit yes }
+    record { tables_bound = search (rules, put_cases); parts_in_bounds = tables_ample _ _ _ _ _ fit (ap not yes) }
 
 pub enum_known-why : goal.enum_known-why
 enum_known-why c = search (rules, put_cases)

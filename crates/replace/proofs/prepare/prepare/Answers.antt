@@ -1,3 +1,5 @@
+use mathlib.Core.Bool.{not}
+use mathlib.Core.Path.{ap}
 use mathlib.Core.Path.{refl}
 use borrow.Author.Rules.{rules}
 use Rattle.unpack.proofs.WorkReturns.{work_ample}
@@ -24,7 +26,7 @@ make_new-made-requires c =
     let judged = c.in-Passed.ensures in
     let works = c.work_fits.ensures in
     let ample = c.if-not-work_fits.false in
-    record { leaf_value = rows_passed _ _ _ _ _ _ _ judged refl; trees_in_bounds = work_ample _ _ _ _ _ works ample }
+    record { leaf_value = rows_passed _ _ _ _ _ _ _ judged refl; trees_in_bounds = work_ample _ _ _ _ _ works (ap not ample) }
 
 pub returns-in-Refused : goal.returns-in-Refused
 returns-in-Refused c = search (rules, prepare_cases)

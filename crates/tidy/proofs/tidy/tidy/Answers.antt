@@ -1,3 +1,5 @@
+use mathlib.Core.Bool.{not}
+use mathlib.Core.Path.{ap}
 use borrow.Author.Rules.{rules}
 use Rattle.tidy.proofs.TidyReturns.{tidy_cases, work_room}
 use Rattle.tidy.proofs.tidy.tidy.Goals as goal
@@ -24,7 +26,7 @@ pub write_again-requires : goal.write_again-requires
 write_again-requires c =
     let works = c.work_fits.ensures in
     let ample = c.if-not-work_fits.false in
-    (search (rules, tidy_cases), work_room _ _ _ _ _ works ample)
+    record { symbols_value = search (rules, tidy_cases); trees_in_bounds = work_room _ _ _ _ _ works (ap not ample) }
 
 pub returns-in-Refused : goal.returns-in-Refused
 returns-in-Refused c = search (rules, tidy_cases)
