@@ -1,14 +1,14 @@
 -- One law for each return of the fronts, and what they say together.
 use Prim.Native.Nat.{ℕ, ◌*◌, ◌<◌, ◌≤◌}
 use mathlib.Core.Bool.{Bool, true, false, not, ◌&&◌}
-use mathlib.Core.Path.{◌≡◌, refl, sym, ap, ◌∙◌}
+use mathlib.Core.Path.{◌≡◌, sym, ap, ◌∙◌}
 use mathlib.Core.List.{List}
 use native.Mathlib.Omega.{arith}
 use borrow.Author.Tests.{le-leb, lt-leb, leb-true, eq-eqb, ne_eqb, eqb-true, not-true, not-false}
 use lib.ListN.{length}
 use lib.Dec.{leb, eqb}
 use Rattle.format.specs.Width.{part_size}
-use Rattle.format.specs.Verdict.{Verdict, passed, refused}
+use Rattle.format.specs.Verdict.{passed, refused}
 use Rattle.format.specs.Reader as format
 use Rattle.format.specs.Walk.{WalkCall, walk_step}
 use Rattle.format.specs.Tables as tables
@@ -28,7 +28,7 @@ use Rattle.checker.specs.Descent.{after_sizes}
 use Rattle.checker.specs.Glance.{reader_of}
 use Rattle.checker.proofs.Descent.{check_unsized, check_sized}
 use Rattle.walk.specs.Source.{trees_sized, tree_reader_in, report_shape, report_reader_in}
-use Rattle.walk.specs.Walk.{step_of, walk_of, call_of}
+use Rattle.walk.specs.Walk.{step_of, walk_of}
 use Rattle.walk.specs.declared.walk.Walk.{Walk}
 use Rattle.walk.specs.declared.walk.Step.{Step}
 use Rattle.apart.specs.Apart.{sized_apart, sizes_apart, apart_mode}

@@ -8,7 +8,6 @@ use borrow.Author.Tests.{le-leb, lt-leb, eq-eqb, ne_eqb, not-true, not-false}
 use lib.Dec.{eqb}
 use lib.ListN.{length, get_or, take, drop}
 use lib.Seq.{length-take-le, take-add, drop_at}
-use Rattle.format.specs.Test.{if◌then◌else◌}
 use Rattle.format.specs.Verdict.{passed, refused}
 use Rattle.format.specs.Width.{tree_size}
 use Rattle.format.specs.WordList.{list_count}

@@ -7,7 +7,6 @@ use native.Mathlib.Omega.{arith}
 use lib.Dec.{eqb}
 use lib.ListN.{length, get_or}
 use lib.Seq.{take_all}
-use Rattle.format.specs.Test.{if◌then◌else◌}
 use Rattle.format.specs.Width.{tree_size}
 use Rattle.format.specs.WordList.{word_of, raw_from, word_fields}
 use Rattle.format.specs.Builder.{word_in, leaf_fits, leaf_words}

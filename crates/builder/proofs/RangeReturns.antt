@@ -1,7 +1,7 @@
 -- One law for each return of the functions of src/range.rt, with premises as the code's tests and calls give them.
 use Prim.Native.Nat.{ℕ, ◌+◌, ◌*◌, ◌≤◌, ◌<◌}
-use mathlib.Core.Bool.{Bool, true, false, not, ◌&&◌}
-use mathlib.Core.Path.{◌≡◌, refl, sym, ap, ◌∙◌}
+use mathlib.Core.Bool.{Bool, true, false, not}
+use mathlib.Core.Path.{◌≡◌, refl, sym, ◌∙◌}
 use native.Mathlib.Omega.{arith}
 use borrow.Author.Tests.{le-leb, lt-leb, not-true, not-false}
 use lib.Dec.{leb}
@@ -10,7 +10,6 @@ use Rattle.format.specs.Fields.{is_scalar}
 use Rattle.format.specs.Root.{range_fits}
 use Rattle.tree.specs.Types.{lit_kind_word, tree_words_of, words_of}
 use Rattle.tree.specs.Words.{raw_count_of, token_fits}
-use Rattle.tree.specs.declared.types.Span.{Span}
 use Rattle.tree.specs.declared.types.LitKind.{LitKind}
 use Rattle.tree.specs.declared.types.LitKind.TheVariants.{Byte, Char, Integer, Float, Str, StrRaw, ByteStr, ByteStrRaw, CStr, CStrRaw, Err}
 use Rattle.tree.specs.declared.types.Punct.{Punct}

@@ -1,12 +1,11 @@
 -- One law for each return of the functions of src/restore.rt, with premises as the code's tests and calls give them.
-use Prim.Native.Nat.{ℕ, zero, suc, ◌+◌, ◌*◌, ◌-◌, ◌/◌, ◌≤◌, ◌<◌}
+use Prim.Native.Nat.{ℕ, suc, ◌+◌, ◌*◌, ◌-◌, ◌≤◌, ◌<◌}
 use mathlib.Core.Bool.{Bool, true, false, not, ◌&&◌, ◌||◌}
 use mathlib.Core.Path.{◌≡◌, refl, sym, ap, ◌∙◌}
-use mathlib.Core.List.{List, [], ◌∷◌}
+use mathlib.Core.List.{List, ◌∷◌}
 use native.Mathlib.Omega.{arith}
-use native.Mathlib.Nat.{add-zero}
-use borrow.Author.Tests.{le-leb, lt-leb, le-ltb, lt-ltb, eq-eqb, ne_eqb, not-true, not-false, leb-true}
-use lib.Dec.{leb, ltb, eqb}
+use borrow.Author.Tests.{le-leb, lt-leb, le-ltb, lt-ltb, eq-eqb, ne_eqb, not-true, not-false}
+use lib.Dec.{ltb, eqb}
 use lib.ListN.{length, get_or}
 use Rattle.format.specs.Test.{if◌then◌else◌}
 use Rattle.format.specs.Verdict.{Verdict, passed, refused, ◌and_then◌, rule, each_from}
@@ -14,7 +13,6 @@ use Rattle.format.specs.Width.{tree_size}
 use Rattle.format.specs.WordList.{list_count}
 use Rattle.format.specs.Builder.{sub_at, disagrees, is_among, open_before, reaches_past, point_fits, point_verdict, restore_point, restore_verdict, restore}
 use Rattle.format.specs.Builder as format
-use Rattle.format.proofs.Each.{both, rule_passed}
 use Rattle.builder.proofs.BuilderRestore.{Agrees, agrees_is}
 use Rattle.tree.specs.Refusal.{verdict_answer}
 use Rattle.tree.proofs.Answers.{answer_passed, answer_refused}

@@ -6,7 +6,6 @@ use mathlib.Core.List.{List, []}
 use lib.ListN.{length}
 use lib.Dec.{eqb}
 use borrow.Author.Tests.{ne_eqb}
-use Rattle.format.specs.Test.{if◌then◌else◌}
 use Rattle.format.specs.Verdict.{passed, refused, refusal, rule}
 use Rattle.format.specs.WordList.{list_rows}
 use Rattle.format.specs.Builder.{new, Step, builder_from, disagrees, ready, build, build_skip_top_subtree, written}

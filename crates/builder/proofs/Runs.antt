@@ -17,12 +17,11 @@ use Rattle.tree.proofs.Answers.{answer_passed}
 use Rattle.tree.specs.declared.refusal.Verdict.TheVariants.{Passed}
 use Rattle.tree.specs.declared.types.Span.{Span}
 use Rattle.builder.specs.declared.state.Builder.{Builder}
-use Rattle.builder.specs.declared.state.Point.{Point}
 use Rattle.builder.specs.declared.state.Stepped.{Stepped}
 use Rattle.builder.specs.declared.restore.PointTaken.{PointTaken}
 use Rattle.builder.specs.declared.restore.PointTaken.TheVariants as taken
 use Rattle.builder.specs.State.{numbers, seen}
-use Rattle.builder.specs.Restoring.{point_of, point_answer}
+use Rattle.builder.specs.Restoring.{point_answer}
 use Rattle.builder.specs.Taken.{none_open, Begun, Taken}
 use Rattle.builder.proofs.Numbers.{numbers_length}
 use Rattle.builder.proofs.Seen.{Sized, step_sees}

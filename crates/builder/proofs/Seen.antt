@@ -1,30 +1,29 @@
 -- The builder after a step, as the definitions see it: the definitions' builder after that step.
 use Prim.Native.Nat.{ℕ, zero, suc, ◌+◌, ◌-◌, ◌≤◌, ◌<◌}
-use mathlib.Core.Bool.{Bool, true, false, not, ◌&&◌}
+use mathlib.Core.Bool.{Bool, true, false, not}
 use mathlib.Core.Path.{◌≡◌, refl, sym, ap, ◌∙◌, subst}
-use mathlib.Core.List.{List, [], ◌∷◌}
+use mathlib.Core.List.{List, ◌∷◌}
 use native.Mathlib.Omega.{arith}
 use native.Mathlib.Numerals.{add-one}
-use borrow.Author.Tests.{ltb-true, leb-true, eqb-true, not-true}
+use borrow.Author.Tests.{ltb-true, eqb-true, not-true}
 use lib.Dec.{ltb, leb, eqb}
 use lib.ListN.{length, get_or, set, length-set}
 use lib.Seq.{get_or-set_same, get_or-set_other}
 use Rattle.format.specs.Test.{if◌then◌else◌}
 use Rattle.format.specs.Verdict.{Verdict, passed, refused, ◌and_then◌, contents, rule, each_from}
-use Rattle.format.specs.Part.{WordSpan}
 use Rattle.format.specs.Builder.{open_fit, sub_at, disagrees, reaches_past, but_last, open_before, point_fits, open_verdict, restore_verdict, restored, Step, push, open_subtree, close_subtree, restore, step_verdict, step_builder, step_words, builder_step}
 use Rattle.format.specs.Builder as format
 use Rattle.format.proofs.Each.{and₄, both, rule_passed}
-use Rattle.builder.proofs.Framed.{Below, below_more, all_before}
+use Rattle.builder.proofs.Framed.{below_more, all_before}
 use Rattle.builder.proofs.BuilderRun.{after_step}
-use Rattle.builder.proofs.BuilderRestore.{Agrees, agrees_is, fit_below}
+use Rattle.builder.proofs.BuilderRestore.{agrees_is, fit_below}
 use Rattle.tree.specs.Refusal.{verdict_answer}
 use Rattle.tree.proofs.Answers.{answer_refused}
 use Rattle.tree.specs.declared.refusal.Refusal.{Refusal}
-use Rattle.tree.specs.declared.refusal.Verdict.TheVariants.{Passed, Refused}
+use Rattle.tree.specs.declared.refusal.Verdict.TheVariants.{Refused}
 use Rattle.builder.specs.declared.state.Builder.{Builder}
 use Rattle.builder.specs.declared.state.Stepped.{Stepped}
-use Rattle.builder.specs.State.{numbers, state_of, seen}
+use Rattle.builder.specs.State.{numbers, seen}
 use Rattle.builder.specs.Taken.{after, Taken}
 use Rattle.builder.proofs.Numbers.{numbers_length}
 use Rattle.builder.proofs.TakenReturns.{open_few}

@@ -1,18 +1,17 @@
 -- One law for each return of the functions of src/steps.rt, with premises as the code's tests and calls give them.
-use Prim.Native.Nat.{ℕ, ◌+◌, ◌*◌, ◌-◌, ◌/◌, ◌≤◌, ◌<◌}
-use mathlib.Core.Bool.{Bool, true, false, not, ◌&&◌}
+use Prim.Native.Nat.{ℕ, ◌/◌, ◌≤◌, ◌<◌}
+use mathlib.Core.Bool.{Bool, true, false, not}
 use mathlib.Core.Path.{◌≡◌, refl, sym, ap, ◌∙◌}
-use mathlib.Core.List.{List, [], ◌∷◌}
+use mathlib.Core.List.{List}
 use native.Mathlib.Omega.{arith}
 use borrow.Author.Tests.{le-leb, lt-leb, le-ltb, lt-ltb, not-true, not-false}
-use lib.Dec.{leb, ltb}
 use lib.ListN.{length}
-use Rattle.format.specs.Verdict.{Verdict, passed, refused, ◌and_then◌, rule}
+use Rattle.format.specs.Verdict.{Verdict, passed, refused}
 use Rattle.format.specs.Width.{tree_size}
 use Rattle.format.specs.WordList.{list_count}
 use Rattle.format.specs.Part.{WordSpan}
 use Rattle.format.specs.Root.{range_fits}
-use Rattle.format.specs.Builder.{Builder, leaf_fits, disagrees, new_verdict, room, push_verdict, open_verdict, close_verdict}
+use Rattle.format.specs.Builder.{leaf_fits, disagrees, new_verdict, room, push_verdict, open_verdict, close_verdict}
 use Rattle.tree.specs.Refusal.{verdict_answer}
 use Rattle.tree.specs.declared.refusal.Verdict.{Verdict as Answer}
 use Rattle.tree.specs.declared.refusal.Verdict.TheVariants.{Passed, Refused}

@@ -1,8 +1,8 @@
 -- One law for each return of `new`, `push`, `open` and `close`, with premises as the code's tests and calls give them.
-use Prim.Native.Nat.{ℕ, zero, suc, ◌+◌, ◌*◌, ◌-◌, ◌/◌, ◌≤◌, ◌<◌}
-use mathlib.Core.Bool.{Bool, true, false, not, ◌&&◌}
+use Prim.Native.Nat.{ℕ, ◌+◌, ◌*◌, ◌-◌, ◌≤◌, ◌<◌}
+use mathlib.Core.Bool.{not, ◌&&◌}
 use mathlib.Core.Path.{◌≡◌, refl, sym, ap, ◌∙◌, subst}
-use mathlib.Core.List.{List, [], ◌∷◌}
+use mathlib.Core.List.{List}
 use native.Mathlib.Omega.{arith}
 use borrow.Author.Tests.{leb-true, ltb-true, not-true}
 use lib.Dec.{leb, ltb}
@@ -29,7 +29,7 @@ use Rattle.tree.specs.declared.types.Span.{Span}
 use Rattle.tree.specs.declared.types.Leaf.{Leaf}
 use Rattle.builder.specs.declared.state.Builder.{Builder}
 use Rattle.builder.specs.declared.state.Stepped.{Stepped}
-use Rattle.builder.specs.State.{numbers, state_of, seen, closed_at}
+use Rattle.builder.specs.State.{numbers, seen, closed_at}
 use Rattle.builder.specs.Given.{pushed}
 use Rattle.builder.specs.Taken.{none_open, Begun, after, Taken}
 use Rattle.builder.proofs.Numbers.{numbers_length, numbers_down}

@@ -11,8 +11,8 @@ use lib.ListN.{length, get_or}
 use Rattle.format.specs.Width.{part_size}
 use Rattle.format.specs.Tables.{Mode, own_limits, own_mode}
 use Rattle.format.specs.Buffer.{own_reader}
-use Rattle.format.specs.Reader.{Reader, Reply, got, bad, Answer, none, one, two, refused}
-use Rattle.format.specs.Cursor.{Cursor, CursorCall, token_tree, peek_two_leaves, within, tree_here, second_leaf, first_leaf, cursor_call, cursor_step}
+use Rattle.format.specs.Reader.{Reader, Reply, got, bad, none, one, two, refused}
+use Rattle.format.specs.Cursor.{CursorCall, token_tree, peek_two_leaves, within, tree_here, second_leaf, first_leaf, cursor_call, cursor_step}
 use Rattle.format.proofs.Each.{and_left}
 use Rattle.format.specs.Loose.{Loose, loose_at, beside}
 use Rattle.tree.specs.Loose.{loose_of}

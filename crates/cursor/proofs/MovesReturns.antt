@@ -22,7 +22,7 @@ use Rattle.format.specs.Loose.{loose_at, reported_shape, reported}
 use Rattle.walk.specs.Source.{sizes, report_reader_in}
 use Rattle.walk.proofs.SizesReturns.{sizes_trees, sizes_whole, sizes_mode}
 use Rattle.cursor.specs.Open.{opened, cursor_of}
-use Rattle.cursor.specs.Plan.{answer_of, changed, May, Planned}
+use Rattle.cursor.specs.Plan.{answer_of, changed, May}
 use Rattle.cursor.specs.Moves.{at_of, written, state_of, Arrays, Moves, MovesIn, moved, stored, count_in, Applied}
 use Rattle.cursor.specs.declared.state.At.{At}
 use Rattle.cursor.specs.declared.plan.Answer.{Answer}

@@ -1,6 +1,6 @@
 -- One law for each return of the functions that report on the tree at a place.
 use Prim.Native.Nat.{ℕ, ◌+◌, ◌-◌, ◌/◌, ◌%◌, ◌≤◌, ◌<◌}
-use mathlib.Core.Bool.{Bool, true, false}
+use mathlib.Core.Bool.{Bool, false}
 use mathlib.Core.Path.{◌≡◌, sym, ap, ◌∙◌}
 use mathlib.Core.List.{List}
 use borrow.Author.Tests.{eq-eqb, ne_eqb, lt-ltb, le-ltb}
@@ -8,7 +8,6 @@ use lib.Dec.{ltb}
 use lib.ListN.{length, get_or-eq_default}
 use Rattle.format.specs.Word.{byte_at}
 use Rattle.format.specs.Span.{span, span_at}
-use Rattle.format.specs.Span as format
 use Rattle.format.specs.Write.{span_bytes}
 use Rattle.format.specs.Loose.{Loose, is_loose, loose_read, loose_leaf, loose_shared, loose_both, loose_by, loose_after, loose_at}
 use Rattle.pack.specs.Answer.{span_of, span_answer}

@@ -10,7 +10,7 @@ use Rattle.format.specs.Word.{byte_at, half_at, word_at}
 use Rattle.format.specs.Span.{Span, span, span_at, symbol, symbol_at}
 use Rattle.format.specs.Span as format
 use Rattle.format.specs.Reader.{got}
-use Rattle.format.specs.Tree.{Raw, punct, subtree, ident_of, literal_of, bits_agree, moved, short_kind, short_raw, form000, form001, form010, closed101, form110, form_short, form111, controlled, after_span, tree_at, is_raw_kind}
+use Rattle.format.specs.Tree.{punct, subtree, ident_of, literal_of, bits_agree, moved, short_kind, short_raw, form000, form001, form010, closed101, form110, form_short, form111, controlled, after_span, tree_at, is_raw_kind}
 use Rattle.format.specs.Fields.{fields}
 use Rattle.pack.specs.Answer.{span_of, span_answer, symbol_answer}
 use Rattle.pack.specs.declared.span.PackedSpan.{PackedSpan}

@@ -1,8 +1,7 @@
 -- DEMAND 3 from the answer of `check_buffer`: over what it passed, the functions of crates `walk` and `cursor` are the plain machine.
 use Prim.Native.Nat.{ℕ}
-use mathlib.Core.Path.{◌≡◌, ◌∙◌}
+use mathlib.Core.Path.{◌≡◌}
 use mathlib.Core.List.{List, []}
-use Rattle.format.specs.Verdict.{passed}
 use Rattle.format.specs.Buffer.{own_reader, buffer_check}
 use Rattle.tree.specs.Refusal.{verdict_answer}
 use Rattle.tree.specs.declared.refusal.Verdict.{Verdict}

@@ -14,7 +14,7 @@ use Rattle.keys.specs.Keys.{live_in, slot_of}
 use Rattle.distinct.specs.Gathered.{like_rank, UpTo, Under, Filled, FilledIf}
 use Rattle.slots.specs.Probe.{probe, next_slot}
 use Rattle.slots.specs.declared.probe.Looked.{Looked}
-use Rattle.slots.specs.declared.probe.Looked.TheVariants.{Found, Empty, Full}
+use Rattle.slots.specs.declared.probe.Looked.TheVariants.{Found, Empty}
 use Rattle.slots.proofs.Cases.{kept}
 use Rattle.keys.proofs.KeyReturns.{slot_same}
 use Rattle.slots.proofs.ProbeLaw.{probe_found}

@@ -6,14 +6,14 @@ use mathlib.Core.List.{List, [], ◌∷◌}
 use native.Mathlib.Omega.{arith}
 use borrow.Author.Tests.{le-leb, lt-leb, leb-true, ltb-true, not-true, not-false}
 use lib.Dec.{leb, eqb}
-use lib.ListN.{length, length-append}
+use lib.ListN.{length}
 use Rattle.format.specs.Test.{if◌then◌else◌}
 use Rattle.format.specs.Verdict.{passed, ◌and_then◌, rule}
 use Rattle.format.specs.Word.{put}
 use Rattle.format.specs.Span.{Span}
 use Rattle.format.specs.Tree.{Raw, subtree, is_raw_kind}
 use Rattle.format.specs.Fields.{span_fits, is_scalar, fields}
-use Rattle.format.specs.Write.{join, span_bytes, symbol_bytes, root_bytes, tree_bytes}
+use Rattle.format.specs.Write.{join, span_bytes, symbol_bytes, tree_bytes}
 use Rattle.format.specs.Pack.{room_for}
 use Rattle.format.proofs.Each.{both, rule_passed, and_left, and_right, and₃, and₄}
 use Rattle.format.proofs.WriteSize.{root_33}

@@ -5,13 +5,13 @@ use mathlib.Core.Path.{◌≡◌, refl, sym, ap, ◌∙◌, subst}
 use mathlib.Core.List.{List, [], ◌∷◌}
 use native.Mathlib.Omega.{arith}
 use borrow.Author.Tests.{lt-ltb, le-ltb, ltb-true, ltb-false, eq-eqb, ne_eqb}
-use lib.Dec.{ltb, eqb}
+use lib.Dec.{ltb}
 use lib.ListN.{length}
 use Rattle.format.specs.Test.{if◌then◌else◌}
 use Rattle.format.specs.Span.{Span}
 use Rattle.format.specs.Verdict.{passed}
 use Rattle.format.specs.Word.{put}
-use Rattle.format.specs.Tree.{Raw, punct, ident}
+use Rattle.format.specs.Tree.{Raw, punct}
 use Rattle.format.specs.WordList.{word_of, raw_from}
 use Rattle.format.specs.Write.{join, span_bytes, symbol_bytes, tree_bytes}
 use Rattle.pack.specs.Answer.{span_of}

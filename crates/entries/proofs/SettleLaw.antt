@@ -6,7 +6,7 @@ use mathlib.Core.Logic.{⊎_elim}
 use mathlib.Core.List.{List, [], ◌∷◌, ◌++◌, append_assoc}
 use native.Mathlib.Omega.{arith}
 use lib.ListN.{length, get_or, take, drop, length-drop, get_or-append}
-use lib.Seq.{sets, sets-eq, drop-cons, drop_at, get_or-take, get_or-drop, ext_get_or, take-suc, length-take-le, length-sets, drop-length}
+use lib.Seq.{sets, sets-eq, drop-cons, drop_at, get_or-take, get_or-drop, ext_get_or, length-take-le, length-sets, drop-length}
 use lib.Dec.{eqb}
 use borrow.Author.Tests.{eqb-true, eq-eqb}
 use Rattle.format.specs.Test.{if◌then◌else◌}

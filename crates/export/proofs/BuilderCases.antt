@@ -1,7 +1,7 @@
 -- One law for each return of the builder's functions.
 use Prim.Native.Nat.{ℕ, ◌<◌}
 use mathlib.Core.Bool.{Bool, true, false}
-use mathlib.Core.Path.{◌≡◌, refl, sym, ap, ◌∙◌, subst}
+use mathlib.Core.Path.{◌≡◌, refl, ap, ◌∙◌, subst}
 use mathlib.Core.List.{List, [], ◌∷◌}
 use Rattle.format.specs.Verdict as format
 use Rattle.format.specs.Width.{span_size}
@@ -10,7 +10,6 @@ use Rattle.format.specs.Builder as steps
 use Rattle.tree.specs.Types.{words_of}
 use Rattle.tree.specs.Refusal.{verdict_answer}
 use Rattle.tree.specs.declared.refusal.Refusal.{Refusal}
-use Rattle.tree.specs.declared.refusal.Verdict.{Verdict}
 use Rattle.tree.specs.declared.refusal.Report.{Report}
 use Rattle.tree.specs.declared.types.Span.{Span}
 use Rattle.builder.specs.State.{seen}

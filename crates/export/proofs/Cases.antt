@@ -6,7 +6,6 @@ use mathlib.Core.List.{List, [], ◌∷◌}
 use borrow.Author.Tests.{lt-ltb, le-ltb}
 use lib.ListN.{length, set}
 use lib.Seq.{sets-eq}
-use Rattle.format.specs.Test.{if◌then◌else◌}
 use Rattle.format.specs.Word.{put}
 use Rattle.format.specs.Span.{Span, span_at, symbol_at}
 use Rattle.pack.specs.Answer.{decoded_answer, symbol_answer}
@@ -21,7 +20,7 @@ use Rattle.pack.specs.declared.symbol.SymbolRead.{SymbolRead}
 use Rattle.pack.specs.declared.symbol.SymbolRead.TheVariants as symbols
 use mathlib.Core.Bool.{true, false}
 use native.Mathlib.Omega.{arith}
-use Rattle.format.specs.Tree.{Raw, subtree}
+use Rattle.format.specs.Tree.{subtree}
 use Rattle.format.specs.WordList.{word_of, raw_from, word_fields}
 use Rattle.tree.specs.Raw.{raw_tree, raw_of}
 use Rattle.tree.specs.Words.{raw_words_answer}
@@ -38,7 +37,7 @@ use Rattle.decode.specs.Decode.{decoded_of, decoded}
 use Rattle.decode.specs.declared.decode.DecodedTree.{DecodedTree}
 use Rattle.decode.specs.declared.decode.TreeDecoded.{TreeDecoded}
 use Rattle.decode.specs.declared.decode.TreeDecoded.TheVariants as trees
-use Rattle.encode.specs.Encode.{pack_tree, TreePacked}
+use Rattle.encode.specs.Encode.{TreePacked}
 use Rattle.export.specs.Code.{code_of, refusal_code, SpanStored, SymbolStored, span_words, symbol_words, SpanFound, SymbolFound, TreeStored, RootStored, found_size, TreeFound}
 use Rattle.export.specs.Steps.{loose_words}
 

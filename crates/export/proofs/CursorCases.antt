@@ -1,12 +1,11 @@
 -- One law for each return of a cursor's functions.
-use Prim.Native.Nat.{ℕ, zero, suc, ◌+◌, ◌*◌, ◌<◌, ◌≤◌}
-use mathlib.Core.Bool.{Bool, true, false, not}
+use Prim.Native.Nat.{ℕ, zero, suc, ◌*◌, ◌<◌, ◌≤◌}
+use mathlib.Core.Bool.{true, false, not}
 use mathlib.Core.Path.{◌≡◌, refl, sym, ap, ◌∙◌, subst}
 use mathlib.Core.List.{List, [], ◌∷◌, ◌++◌}
 use native.Mathlib.Omega.{arith}
 use borrow.Author.Tests.{lt-ltb, le-ltb, not-true, not-false}
 use lib.ListN.{length, get_or}
-use Rattle.format.specs.Test.{if◌then◌else◌}
 use Rattle.format.specs.Word.{put}
 use Rattle.format.specs.Reader as format
 use Rattle.format.specs.Reader.{Reader}
@@ -20,14 +19,13 @@ use Rattle.tree.specs.declared.loose.ReportedTree.{ReportedTree}
 use Rattle.walk.specs.Source.{answer_report}
 use Rattle.cursor.specs.Open.{opened, cursor_of}
 use Rattle.cursor.specs.Plan.{answer_of}
-use Rattle.cursor.specs.Moves.{state_of, written, at_of, Moves}
+use Rattle.cursor.specs.Moves.{state_of, written, Moves}
 use Rattle.cursor.specs.Look.{ahead_of, both_of, peek_of, Tells, Peeks}
 use Rattle.cursor.specs.declared.state.At.{At}
 use Rattle.cursor.specs.declared.plan.Answer.{Answer}
 use Rattle.cursor.specs.declared.plan.Answer.TheVariants as answers
 use Rattle.cursor.specs.declared.look.Ahead.{Ahead}
 use Rattle.cursor.specs.declared.look.TwoLeaves.{TwoLeaves}
-use Rattle.cursor.specs.declared.cursor.Cursor.{Cursor}
 use Rattle.cursor.proofs.OpenReturns.{opened_length}
 use Rattle.cursor.proofs.MovesReturns.{written_none}
 use Rattle.cursor.proofs.CursorRule.{looking}

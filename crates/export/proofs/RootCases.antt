@@ -1,6 +1,6 @@
 -- One law for each return of root rewriting.
 use Prim.Native.Nat.{ℕ}
-use mathlib.Core.Path.{◌≡◌, sym, ap, ◌∙◌, subst}
+use mathlib.Core.Path.{◌≡◌, ap, ◌∙◌, subst}
 use mathlib.Core.List.{List}
 use Rattle.format.specs.Width.{span_size}
 use Rattle.tree.specs.declared.refusal.Verdict.{Verdict}

@@ -1,11 +1,10 @@
 -- One law for each return of a walk's functions.
-use Prim.Native.Nat.{ℕ, ◌+◌, ◌<◌, ◌≤◌}
+use Prim.Native.Nat.{ℕ, ◌<◌, ◌≤◌}
 use mathlib.Core.Bool.{Bool, true, false}
-use mathlib.Core.Path.{◌≡◌, refl, sym, ap, ◌∙◌, subst}
-use mathlib.Core.List.{List, [], ◌∷◌, ◌++◌}
+use mathlib.Core.Path.{◌≡◌, ap, ◌∙◌}
+use mathlib.Core.List.{List, [], ◌∷◌}
 use borrow.Author.Tests.{lt-ltb, le-ltb}
 use lib.ListN.{length, set}
-use Rattle.format.specs.Test.{if◌then◌else◌}
 use Rattle.format.specs.Width.{span_size}
 use Rattle.format.specs.Word.{put}
 use Rattle.format.specs.Reader as format
@@ -16,7 +15,7 @@ use Rattle.tree.specs.declared.refusal.Refusal.{Refusal}
 use Rattle.tree.specs.Loose.{loose_of}
 use Rattle.tree.specs.declared.loose.ReportedTree.{ReportedTree}
 use Rattle.walk.specs.Source.{answer_report}
-use Rattle.walk.specs.Walk.{walk_of, answer_of, Stepped}
+use Rattle.walk.specs.Walk.{answer_of, Stepped}
 use Rattle.walk.specs.Last.{last_of, LastFound}
 use Rattle.walk.specs.declared.walk.Walk.{Walk}
 use Rattle.walk.specs.declared.walk.Step.{Step}
@@ -26,7 +25,7 @@ use Rattle.walk.specs.declared.last_span.LastSpan.{LastSpan}
 use Rattle.walk.specs.declared.last_span.LastSpan.TheVariants as lasts
 use Rattle.export.specs.Replies.{refused_code}
 use Rattle.export.proofs.StoreCases.{last_stored}
-use Rattle.export.specs.Steps.{reported_size, report_list, last_size, step_call, walk_list, Replied, StepStored, WalkReplied, LastStored, LastReplied}
+use Rattle.export.specs.Steps.{reported_size, report_list, last_size, step_call, walk_list, StepStored, WalkReplied, LastStored, LastReplied}
 
 -- ---- a step
 

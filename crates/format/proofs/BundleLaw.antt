@@ -1,17 +1,16 @@
 -- The check of a bundle needs the number of its parts and symbols, and no entry.
 use Prim.Native.Nat.{ℕ, zero, suc, ◌+◌, ◌/◌, ◌%◌, ◌≤◌, ◌<◌}
-use mathlib.Core.Bool.{Bool, true, false, ◌&&◌, ◌||◌}
+use mathlib.Core.Bool.{Bool, true, false, ◌||◌}
 use mathlib.Core.Path.{◌≡◌, refl, sym}
-use mathlib.Core.List.{List, [], ◌∷◌, ◌++◌}
+use mathlib.Core.List.{List, [], ◌++◌}
 use native.Mathlib.Omega.{arith}
 use borrow.Author.Tests.{leb-true, lt-leb}
 use lib.Dec.{leb}
 use lib.ListN.{length, length-append}
-use Rattle.format.specs.Test.{if◌then◌else◌}
 use Rattle.format.specs.Verdict.{Verdict, refused}
 use Rattle.format.specs.Check.{check}
 use Rattle.format.specs.Buffer.{raw_shape, size_reader}
-use Rattle.format.specs.Bundle.{part_bytes, Bundle, BundleRead, bundle, bad_bundle, marked, is_part_record, is_symbol_record, is_last_record, part_record, symbol_record, behind, last_record, records, bundle_at, check_of, bundle_check}
+use Rattle.format.specs.Bundle.{part_bytes, BundleRead, bundle, bad_bundle, marked, is_part_record, is_symbol_record, is_last_record, part_record, symbol_record, behind, last_record, records, bundle_at, check_of, bundle_check}
 use Rattle.format.specs.Width.{part_size}
 use Rattle.format.proofs.Each.{and_right}
 use Rattle.format.proofs.RawReader.{own_check}

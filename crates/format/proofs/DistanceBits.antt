@@ -6,12 +6,12 @@ use mathlib.Core.Path.{◌≡◌, refl, ap, ◌∙◌}
 use mathlib.Core.List.{List}
 use native.Mathlib.Omega.{arith}
 use borrow.Author.Tests.{le-leb, eqb-true}
-use lib.Dec.{leb, eqb}
+use lib.Dec.{eqb}
 use lib.ListN.{length}
 use Rattle.format.specs.Test.{if◌then◌else◌}
 use Rattle.format.specs.Verdict.{passed, refused}
 use Rattle.format.specs.Word.{AreBytes, byte_at}
-use Rattle.format.specs.Span.{Span, span}
+use Rattle.format.specs.Span.{Span}
 use Rattle.format.specs.Reader.{Reader, got, bad}
 use Rattle.format.specs.Reader as answers
 use Rattle.format.specs.Tree.{Raw, subtree, bits_agree, controlled, after_span, tree_at}

@@ -1,20 +1,20 @@
 -- A list with its root taken to hold all others: what the writer's rows and bytes say of it can be read off the list as it stands.
-use Prim.Native.Nat.{ℕ, zero, suc, ◌+◌, ◌*◌, ◌-◌, ◌/◌, ◌≤◌, ◌<◌}
-use mathlib.Core.Bool.{Bool, true, false, ◌&&◌, ◌||◌}
+use Prim.Native.Nat.{ℕ, zero, suc, ◌+◌, ◌*◌, ◌-◌, ◌/◌, ◌≤◌}
+use mathlib.Core.Bool.{Bool, true, false, ◌&&◌}
 use mathlib.Core.Path.{◌≡◌, refl, sym, ap, ◌∙◌}
 use mathlib.Core.List.{List, [], ◌∷◌}
 use native.Mathlib.Omega.{arith}
 use borrow.Author.Tests.{le-ltb, eq-eqb, ne_eqb, eqb-true, eqb-false}
-use lib.Dec.{eqb, ltb, leb}
+use lib.Dec.{eqb, leb}
 use lib.ListN.{length, get_or, set, length-set}
 use lib.Seq.{get_or-set_same, get_or-set_other, set-get_or}
 use Rattle.format.specs.Test.{if◌then◌else◌}
-use Rattle.format.specs.Verdict.{Verdict, passed, refused, ◌and_then◌, rule, each_from, each}
-use Rattle.format.specs.Plain.{Listing, end_of, sub}
-use Rattle.format.specs.Nest.{still_open, innermost, nest_from, rooted, nest}
+use Rattle.format.specs.Verdict.{Verdict, passed, refused, rule, each_from, each}
+use Rattle.format.specs.Plain.{end_of, sub}
+use Rattle.format.specs.Nest.{still_open, nest_from, rooted, nest}
 use Rattle.format.specs.Buffer.{word_shape}
 use Rattle.format.specs.Tables.{Mode, limits, indexed_below, own_tables}
-use Rattle.format.specs.WordList.{word_of, tree_list, raw_from, word_fields, list_count, given, list_sized, row_two, list_rules}
+use Rattle.format.specs.WordList.{word_of, raw_from, word_fields, list_count, given, list_sized, row_two, list_rules}
 use Rattle.format.specs.Writer.{part_index, symbol_index, raw_of, raws, present, row_five, list_verdict}
 use Rattle.format.specs.Width.{open_at, close_at, tree_size}
 use Rattle.format.specs.Part.{part_from, same_part, part_at, span_from, indexed}

@@ -1,7 +1,7 @@
 -- Laws of keys: two are alike where their words are the same, and which trees their numbers stand for.
 use Prim.Native.Nat.{ℕ, ◌+◌, ◌*◌, ◌/◌, ◌%◌}
 use mathlib.Core.Path.{◌≡◌, refl, ap, sym, ◌∙◌}
-use mathlib.Core.Bool.{Bool, true, false, ◌&&◌, ◌||◌}
+use mathlib.Core.Bool.{Bool, true, false, ◌||◌}
 use mathlib.Core.List.{List, [], ◌∷◌}
 use native.Mathlib.Omega.{arith}
 use lib.ListN.{get_or}
@@ -11,7 +11,6 @@ use Rattle.format.specs.WordList.{word_of, open_part, close_part}
 use Rattle.format.specs.MakeTables.{live_at, key_place, key_word, key_part, key_words, alike_at}
 use Rattle.format.specs.Width.{open_at, close_at, tree_size}
 use Rattle.format.specs.Part.{part_words}
-use Rattle.format.proofs.Each.{and_left, and_right}
 use Rattle.format.proofs.NewsLaw.{Likeness}
 use Rattle.format.proofs.PartLaw.{same_part_lem, part_same, words_part, part_from_lem}
 use Rattle.format.proofs.ListTrees.{sort}

@@ -1,10 +1,9 @@
 -- `last_span`: one more step of it, and over an admitted buffer it is the last tree's.
 use Prim.Native.Nat.{ℕ, zero, suc, ◌+◌, ◌-◌, ◌≤◌, ◌<◌}
-use mathlib.Core.Bool.{Bool, true, false, not, ◌&&◌}
+use mathlib.Core.Bool.{Bool, true, false, ◌&&◌}
 use mathlib.Core.Path.{◌≡◌, refl, sym, ap, ◌∙◌, subst}
-use mathlib.Core.List.{List}
 use native.Mathlib.Omega.{arith}
-use borrow.Author.Tests.{le-leb, lt-leb, lt-ltb, le-ltb, ne_eqb, eqb-true, eqb-false, ltb-true, ltb-false, leb-false}
+use borrow.Author.Tests.{le-leb, lt-leb, le-ltb, ne_eqb, eqb-true, eqb-false, ltb-true, ltb-false, leb-false}
 use lib.Dec.{leb, eqb, ltb}
 use Rattle.format.specs.Test.{if◌then◌else◌}
 use Rattle.format.specs.Reader.{Shape, Reader, Reply, got, bad, Answer, done, none, one, two, refused}

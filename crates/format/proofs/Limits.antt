@@ -1,13 +1,11 @@
 -- Each constant of document 01's bounds at its limit and one past it, computed by the checker.
-use Prim.Native.Nat.{ℕ, ◌+◌, ◌*◌}
 use mathlib.Core.Bool.{true, false}
 use mathlib.Core.Path.{◌≡◌, refl}
-use mathlib.Core.List.{List, []}
+use mathlib.Core.List.{[]}
 use Rattle.format.specs.Fields.{span_fits, is_scalar, fields}
 use Rattle.format.specs.Tree.{punct, ident, literal, subtree}
 use Rattle.format.specs.Tables.{tables_sized, row_eight, own_limits, count_rules}
 use Rattle.format.specs.Buffer.{raw_reader}
-use Rattle.format.specs.WordList.{raw_from, word_fields}
 use Rattle.format.specs.Write.{fits000, fits001, fits010}
 use Rattle.format.proofs.Worked.{span_of}
 

@@ -1,16 +1,14 @@
 -- Document 01's table mode, by its one shut reader: what the check passes, demand 2, demand 3 and the last span over it.
 use Prim.Native.Nat.{ℕ, ◌+◌, ◌-◌, ◌≤◌, ◌<◌}
-use mathlib.Core.Bool.{Bool, true, false, ◌&&◌}
-use mathlib.Core.Path.{◌≡◌, refl, ap, ◌∙◌}
+use mathlib.Core.Bool.{◌&&◌}
+use mathlib.Core.Path.{◌≡◌, ap}
 use mathlib.Core.List.{List}
-use native.Mathlib.Omega.{arith}
 use borrow.Author.Tests.{leb-true}
 use lib.Dec.{leb}
-use lib.ListN.{length}
 use Rattle.format.specs.Verdict.{passed}
 use Rattle.format.specs.Reader.{one}
 use Rattle.format.specs.Walk.{fresh_walk}
-use Rattle.format.specs.Check.{check, Admitted, listing, place_of, stored}
+use Rattle.format.specs.Check.{Admitted, listing, place_of, stored}
 use Rattle.format.specs.Rule.{WalkRule}
 use Rattle.format.specs.Tree.{tree_at}
 use Rattle.format.specs.Tables.{rules, own_tables}

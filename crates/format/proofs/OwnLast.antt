@@ -1,5 +1,5 @@
 -- The last span of each tree of a buffer that the check passed, in document 01's table mode.
-use Prim.Native.Nat.{ℕ, ◌+◌, ◌-◌, ◌≤◌, ◌<◌}
+use Prim.Native.Nat.{ℕ, ◌-◌, ◌≤◌, ◌<◌}
 use mathlib.Core.Bool.{true}
 use mathlib.Core.Path.{◌≡◌, ap}
 use mathlib.Core.List.{List}

@@ -1,18 +1,17 @@
 -- A span or symbol that was packed is read back at its place; packing in bounds and with room is never refused.
 use Prim.Native.Nat.{ℕ, ◌+◌, ◌≤◌, ◌<◌}
 use mathlib.Core.Bool.{Bool, true, false}
-use mathlib.Core.Path.{◌≡◌, refl}
+use mathlib.Core.Path.{◌≡◌}
 use mathlib.Core.List.{List}
 use native.Mathlib.Omega.{arith}
 use borrow.Author.Tests.{leb-true, ltb-true, le-leb, lt-ltb}
 use lib.Dec.{leb, ltb}
 use lib.ListN.{length}
-use Rattle.format.specs.Test.{if◌then◌else◌}
-use Rattle.format.specs.Verdict.{Verdict, passed, ◌and_then◌, rule, contents}
+use Rattle.format.specs.Verdict.{Verdict, passed, ◌and_then◌, rule}
 use Rattle.format.specs.Word.{put}
 use Rattle.format.specs.Span.{Span, span, span_at, symbol, symbol_at}
 use Rattle.format.specs.Fields.{span_fits}
-use Rattle.format.specs.Write.{heavy_bytes, span_bytes, symbol_bytes}
+use Rattle.format.specs.Write.{symbol_bytes}
 use Rattle.format.specs.Pack.{room_for, span_form, pack_span, span_packed, pack_symbol, symbol_packed}
 use Rattle.format.proofs.Each.{both, rule_passed}
 use Rattle.format.proofs.Holds.{Holds}

@@ -1,19 +1,18 @@
 -- The check of a packed buffer needs no table entry: it says the same over trees with indices, and the same over two tables of one size.
 use Prim.Native.Nat.{ℕ, ◌/◌, ◌%◌}
-use mathlib.Core.Bool.{Bool, true, false, not, ◌&&◌}
-use mathlib.Core.Path.{◌≡◌, refl, ap, ◌∙◌, sym}
+use mathlib.Core.Bool.{Bool, true, false, ◌&&◌}
+use mathlib.Core.Path.{◌≡◌, refl, ap, ◌∙◌}
 use mathlib.Core.List.{List}
 use lib.ListN.{length, get_or}
 use lib.Dec.{leb, eqb}
 use borrow.Author.Tests.{eq-eqb}
-use Rattle.format.specs.Test.{if◌then◌else◌}
 use Rattle.format.specs.Reader.{Reply, got, bad}
 use Rattle.format.specs.Check.{check}
 use Rattle.format.proofs.Sight.{sight, Alike, check_same}
 use Rattle.format.specs.Tree.{Raw, punct, ident, literal, subtree, is_subtree, count_of, tree_at}
 use Rattle.format.specs.Fields.{fields}
 use Rattle.format.specs.Tables.{TableRules, Tables, rules, Mode, tree_words, mode_tables, count_rules, own_mode, own_tables}
-use Rattle.format.specs.Buffer.{formed, unless, judge, word_shape, raw_shape, reader, raw_reader, own_reader, buffer_check, size_reader}
+use Rattle.format.specs.Buffer.{formed, judge, word_shape, raw_shape, reader, raw_reader, own_reader, buffer_check, size_reader}
 use Rattle.format.specs.Width.{part_size}
 use Rattle.format.proofs.Each.{true_false}
 

@@ -7,8 +7,8 @@ use mathlib.Core.List.{List, [], ◌∷◌, ◌++◌}
 use native.Mathlib.Omega.{arith}
 use lib.ListN.{take, drop, replicate}
 use Rattle.format.specs.Verdict.{passed, refused, wrote, refusal, each_from}
-use Rattle.format.specs.Word.{word_at, half_at, put}
-use Rattle.format.specs.Span.{span, span_at, symbol_at}
+use Rattle.format.specs.Word.{word_at, put}
+use Rattle.format.specs.Span.{span_at, symbol_at}
 use Rattle.format.specs.Reader.{got, bad}
 use Rattle.format.specs.Plain.{Listing, end_of}
 use Rattle.format.specs.Nest.{nest_from, nest, still_open}

@@ -1,11 +1,11 @@
 -- Lists written and read by the unmodified source, and what the definitions make of them. Every expected value is the source's answer.
-use Prim.Native.Nat.{ℕ, zero, suc, ◌+◌, ◌*◌}
+use Prim.Native.Nat.{ℕ, zero, suc, ◌+◌}
 use mathlib.Core.Path.{◌≡◌, refl}
 use mathlib.Core.Bool.{true, false}
 use mathlib.Core.List.{List, [], ◌∷◌, ◌++◌}
-use lib.ListN.{length, take, drop}
+use lib.ListN.{take, drop}
 use Rattle.format.specs.Verdict.{passed, each_from}
-use Rattle.format.specs.Word.{word_at, half_at, put}
+use Rattle.format.specs.Word.{word_at, half_at}
 use Rattle.format.specs.Span.{span_at, symbol_at}
 use Rattle.format.specs.Nest.{nest_from, still_open}
 use Rattle.format.specs.Tree.{subtree, tree_at, after_span, controlled}

@@ -1,13 +1,12 @@
 -- No reading of a span or a symbol takes fewer bytes than its packed form: the form that is written is the smallest, and of lower numbers no longer.
 use Prim.Native.Nat.{ℕ, ◌+◌, ◌*◌, ◌/◌, ◌%◌, ◌≤◌, ◌<◌}
 use mathlib.Core.Bool.{Bool, true, false, ◌&&◌}
-use mathlib.Core.Path.{◌≡◌, refl, sym, ap, ◌∙◌, subst}
+use mathlib.Core.Path.{◌≡◌, refl, subst}
 use mathlib.Core.List.{List}
 use native.Mathlib.Omega.{arith}
 use borrow.Author.Tests.{lt-ltb, ltb-true}
 use lib.Dec.{leb, eqb, ltb}
-use lib.ListN.{length, get_or}
-use Rattle.format.specs.Test.{if◌then◌else◌}
+use lib.ListN.{length}
 use Rattle.format.specs.Word.{AreBytes, byte_at, half_at, word_at}
 use Rattle.format.specs.Span.{Span, SpanRead, span, span_at, span₁, span₂, span₃, SymbolRead, symbol, symbol_at}
 use Rattle.format.specs.Write.{heavy_bytes, span_bytes, symbol_bytes}

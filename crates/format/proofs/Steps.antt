@@ -5,20 +5,20 @@ use mathlib.Core.List.{List, [], ◌∷◌, ◌++◌}
 use lib.ListN.{length, get_or, take, drop}
 use Rattle.format.specs.Verdict.{Verdict, passed, each_from}
 use Rattle.format.specs.Verdict as verdicts
-use Rattle.format.specs.Reader.{Answer, done, none, one, two, refused}
+use Rattle.format.specs.Reader.{done, none, one, two, refused}
 use Rattle.format.specs.Word.{word_at, half_at}
 use Rattle.format.specs.Write.{span_bytes}
-use Rattle.format.specs.Loose.{loose_from, loose_at, loose_after, loose_by}
+use Rattle.format.specs.Loose.{loose_from, loose_at, loose_after}
 use Rattle.format.specs.Span.{span_at, symbol_at}
 use Rattle.format.specs.Nest.{around, nest_from, still_open}
 use Rattle.format.specs.Tree.{tree_at, after_span, controlled}
 use Rattle.format.specs.Check.{check, place_of}
-use Rattle.format.specs.Walk.{Walk, advance, skip, walk_step, walk_run, fresh_walk}
-use Rattle.format.specs.Cursor.{Open, Cursor, CursorCall, bump, end, bump_or_end, token_tree, peek_two_leaves, nested_in, cursor_step, cursor_run, fresh_cursor}
+use Rattle.format.specs.Walk.{Walk, advance, skip, walk_step, walk_run}
+use Rattle.format.specs.Cursor.{Open, Cursor, bump, end, bump_or_end, token_tree, peek_two_leaves, nested_in, cursor_step, cursor_run, fresh_cursor}
 use Rattle.format.specs.LastSpan.{last_for, last_span}
 use Rattle.format.specs.Tables.{tree_words}
 use Rattle.format.specs.Buffer.{judge, word_shape, own_reader, buffer_check}
-use Rattle.format.specs.Bundle.{Bundle, bundle, bad_bundle, records, bundle_at, check_of, number_of}
+use Rattle.format.specs.Bundle.{bundle, bad_bundle, records, bundle_at, check_of, number_of}
 use Rattle.format.specs.Lister.{digits_for, refusal_line, header, sort_word, tree_line, tree_lines, buffer_loose, bundle_text, lister_text}
 use Rattle.format.proofs.Samples.{three_parts, four_parts, hundred_symbols, ten_bytes}
 

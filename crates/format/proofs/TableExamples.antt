@@ -13,7 +13,7 @@ use Rattle.format.specs.WordList.{raw_from, list_rules}
 use Rattle.format.specs.Distinct.{any_in, tally, news}
 use Rattle.format.specs.Order.{range, before, insert, falling, ordered}
 use Rattle.format.specs.MakeTables.{key_count, live_at, key_place, alike_at, limit_of, keys_of, times_of, table_keys, words_of, table_words, table_counts}
-use Rattle.format.specs.MakeTables.{part_table, part_counts, symbol_table, symbol_counts, tables_verdict, TablesReport, made, refusal, tables_report, TablesMade}
+use Rattle.format.specs.MakeTables.{part_table, part_counts, symbol_table, symbol_counts, tables_verdict, made, refusal, tables_report, TablesMade}
 
 -- the tables of a list: parts, their counts, symbols, their counts
 all : List ℕ → List (List ℕ)

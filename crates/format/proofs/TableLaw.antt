@@ -1,7 +1,7 @@
 -- What the tables of a list are, said of its trees: places, counts, sums, sizes.
 use Prim.Native.Nat.{ℕ, zero, suc, ◌+◌, ◌*◌, ◌-◌, ◌/◌, ◌%◌, ◌<◌, ◌≤◌}
 use mathlib.Core.Path.{◌≡◌, refl, ap, ap₂, sym, ◌∙◌}
-use mathlib.Core.Bool.{Bool, true, false, not, ◌&&◌, ◌||◌}
+use mathlib.Core.Bool.{true, false, not, ◌&&◌, ◌||◌}
 use mathlib.Core.Logic.{◌⊎◌, inl, inr, ⊎_elim}
 use mathlib.Core.List.{List, [], ◌∷◌, ◌++◌}
 use native.Mathlib.Omega.{arith}
@@ -10,7 +10,7 @@ use lib.Dec.{eqb}
 use borrow.Author.Tests.{eqb-true, ne_eqb}
 use Rattle.format.specs.WordList.{word_of, list_count, open_part, close_part}
 use Rattle.format.specs.Distinct.{tally, hits}
-use Rattle.format.specs.MakeTables.{key_count, live_at, key_word, key_part, key_words, alike_at, times_of, table_keys, words_of, table_words, root_parts}
+use Rattle.format.specs.MakeTables.{key_count, live_at, key_word, key_part, alike_at, times_of, table_keys, words_of, table_words, root_parts}
 use Rattle.format.specs.MakeTables.{part_table, part_counts, symbol_table, symbol_counts, part_total}
 use Rattle.format.specs.Width.{part_size}
 use Rattle.format.specs.Part.{Part, part_words, same_part, part_at}

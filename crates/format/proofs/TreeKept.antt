@@ -8,7 +8,7 @@ use borrow.Author.Tests.{le-leb}
 use lib.Dec.{leb, eqb, ltb}
 use lib.ListN.{length}
 use Rattle.format.specs.Test.{if◌then◌else◌}
-use Rattle.format.specs.Word.{byte_at, half_at, word_at}
+use Rattle.format.specs.Word.{byte_at, half_at}
 use Rattle.format.specs.Span.{Span, SpanRead, span, span_at, SymbolRead, symbol, symbol_at}
 use Rattle.format.specs.Reader.{Reply, got, bad}
 use Rattle.format.specs.Tree.{Raw, punct, bits_agree, need, ident_of, literal_of, closed101, form111, controlled, after_span, tree_at}

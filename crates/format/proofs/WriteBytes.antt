@@ -1,11 +1,11 @@
 -- Every byte that the writer makes of a list within the rules is below 256, and every work word below 2^32.
 use Prim.Native.Nat.{ℕ, zero, suc, ◌+◌, ◌*◌, ◌-◌, ◌/◌, ◌%◌, ◌≤◌, ◌<◌}
-use mathlib.Core.Bool.{Bool, true, false, ◌&&◌, ◌||◌}
-use mathlib.Core.Path.{◌≡◌, refl, sym, ap, ◌∙◌, subst}
-use mathlib.Core.List.{List, [], ◌∷◌, ◌++◌, map}
+use mathlib.Core.Bool.{Bool, true, false, ◌&&◌}
+use mathlib.Core.Path.{◌≡◌, refl, ◌∙◌}
+use mathlib.Core.List.{List, [], ◌∷◌, ◌++◌}
 use native.Mathlib.Omega.{arith}
-use native.Mathlib.Nat.{add-zero, zero-add}
-use borrow.Author.Tests.{ltb-true, leb-true, leb-false, eqb-true}
+use native.Mathlib.Nat.{zero-add}
+use borrow.Author.Tests.{ltb-true, leb-true, eqb-true}
 use lib.Dec.{leb, eqb, ltb}
 use lib.ListN.{length, get_or}
 use Rattle.format.specs.Test.{if◌then◌else◌}
@@ -15,16 +15,13 @@ use Rattle.format.specs.Span.{Span}
 use Rattle.format.specs.Tree.{Raw, punct, ident, literal, subtree, is_subtree, count_of, is_raw_kind}
 use Rattle.format.specs.Fields.{span_fits, is_scalar, fields}
 use Rattle.format.specs.Tables.{Tables, own_tables}
-use Rattle.format.specs.Buffer.{word_shape}
-use Rattle.format.specs.Plain.{end_of, sub}
-use Rattle.format.specs.Write.{join, byte, first_word, second_word, heavy_second, heavy_third, heavy_bytes, span_bytes, symbol_bytes, short_base, literal_bytes, apart, near, fits000, fits001, fits010, bytes000, bytes001, bytes010, bytes101, subtree_bytes, root_bytes, tree_bytes, suffixes, write, work_words}
-use Rattle.format.specs.WordList.{list_count}
+use Rattle.format.specs.Write.{first_word, second_word, heavy_second, heavy_third, heavy_bytes, span_bytes, symbol_bytes, short_base, literal_bytes, apart, near, fits000, fits001, fits010, bytes000, bytes001, bytes010, subtree_bytes, root_bytes, tree_bytes, suffixes, write}
 use Rattle.format.specs.Writer.{list_verdict, packed, trees}
 use Rattle.format.proofs.Each.{and_left, and_right, and₃, and₄, true_false}
 use Rattle.format.proofs.SpanBack.{Packable}
 use Rattle.format.proofs.SubtreeForm.{subtree_form_lem}
 use Rattle.format.proofs.TreeBack.{Writable, near_true}
-use Rattle.format.proofs.WriteLaw.{Lawful, raw_at, word_list, suffix_at, suffix_end}
+use Rattle.format.proofs.WriteLaw.{Lawful, suffix_at, suffix_end}
 use Rattle.format.proofs.WriteSize.{leaf_count, write_size}
 use Rattle.format.proofs.WriterLaw.{lawful}
 

@@ -2,7 +2,6 @@
 use Rattle.std.specs.Prelude.{ℕ, ◌+◌, ◌*◌, ◌-◌, ◌%◌, ◌≤◌, ◌<◌, Bool, ◌&&◌, ◌≡◌, List, [], ◌∷◌, ◌++◌, length, get_or, take, set, leb}
 use Rattle.format.specs.Verdict.{Verdict, ◌and_then◌, contents, rule}
 use Rattle.format.specs.Word.{byte_at, put}
-use Rattle.format.specs.Span.{Span}
 use Rattle.format.specs.Reader.{Reader}
 use Rattle.format.specs.Check.{Admitted, listing}
 use Rattle.format.specs.Width.{part_size, open_at, tree_size}

@@ -1,14 +1,13 @@
 -- The pass over a list's subtrees: leaves are passed over, and the open ends are those of the array.
 use Prim.Native.Nat.{ℕ, zero, suc, ◌+◌, ◌-◌, ◌≤◌, ◌<◌}
 use mathlib.Core.Bool.{Bool, true, false}
-use mathlib.Core.Path.{◌≡◌, refl, sym, ap, ◌∙◌}
+use mathlib.Core.Path.{◌≡◌, refl, ◌∙◌}
 use mathlib.Core.List.{List, [], ◌∷◌}
 use native.Mathlib.Omega.{arith}
 use borrow.Author.Tests.{le-leb, lt-leb, lt-ltb, le-ltb, leb-true}
-use lib.Dec.{leb, ltb}
-use lib.ListN.{length, get_or, set}
-use Rattle.format.specs.Test.{if◌then◌else◌}
-use Rattle.format.specs.Verdict.{Verdict, passed, refused}
+use lib.Dec.{leb}
+use lib.ListN.{length}
+use Rattle.format.specs.Verdict.{passed, refused}
 use Rattle.format.specs.Nest.{still_open, innermost, nest_from}
 use Rattle.format.specs.Buffer.{word_shape}
 use Rattle.format.specs.WordList.{word_of, list_count, given}

@@ -1,12 +1,12 @@
 -- One law for each return of the cursors' loops and their parts.
-use Prim.Native.Nat.{ℕ, zero, suc, ◌+◌, ◌*◌, ◌-◌, ◌<◌, ◌≤◌}
+use Prim.Native.Nat.{ℕ, zero, suc, ◌*◌, ◌-◌, ◌<◌, ◌≤◌}
 use mathlib.Core.Bool.{Bool, true, false, ◌&&◌}
 use mathlib.Core.Path.{◌≡◌, refl, sym, ap, ◌∙◌, subst}
-use mathlib.Core.List.{List, [], ◌∷◌}
+use mathlib.Core.List.{List}
 use native.Mathlib.Omega.{arith}
-use borrow.Author.Tests.{lt-ltb, le-ltb, le-leb, lt-leb, eq-eqb, ne_eqb}
+use borrow.Author.Tests.{le-leb, lt-leb, eq-eqb, ne_eqb}
 use lib.Dec.{leb, eqb}
-use lib.ListN.{length, replicate, length-replicate}
+use lib.ListN.{replicate, length-replicate}
 use Rattle.format.specs.Test.{if◌then◌else◌}
 use Rattle.format.specs.Reader as format
 use Rattle.format.specs.Reader.{Reader}
@@ -21,7 +21,7 @@ use Rattle.cursor.specs.Open.{opened, cursor_of}
 use Rattle.cursor.specs.Plan.{answer_of}
 use Rattle.cursor.specs.Moves.{at_of, fresh_cursor, Arrays, Moves}
 use Rattle.cursor.specs.Look.{Tells}
-use Rattle.cursor.specs.Run.{Held, MovedOn}
+use Rattle.cursor.specs.Run.{Held}
 use Rattle.cursor.specs.declared.state.At.{At}
 use Rattle.cursor.specs.declared.plan.Answer.{Answer}
 use Rattle.cursor.specs.declared.plan.Answer.TheVariants as answers

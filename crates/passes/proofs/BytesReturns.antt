@@ -24,7 +24,6 @@ use Rattle.format.proofs.Each.{true_false}
 use Rattle.pack.specs.Answer.{span_of}
 use Rattle.pack.specs.declared.Packed.{Packed}
 use Rattle.pack.proofs.Store.{put_put, put_none}
-use Rattle.tree.specs.Raw as tree
 use Rattle.encode.specs.Encode.{indices, pack_tree, TreePacked}
 use Rattle.tree.specs.declared.raw.RawSubtree.{RawSubtree}
 use Rattle.tree.specs.declared.raw.ChildrenBytes.{ChildrenBytes}

@@ -15,7 +15,6 @@ use Rattle.format.specs.Tables.{Mode}
 use Rattle.format.specs.WordList.{word_of, raw_from, list_count}
 use Rattle.format.specs.Writer.{raw_of}
 use Rattle.format.proofs.WriteSize.{tree_size_lem}
-use Rattle.tree.specs.Raw as tree
 use Rattle.tree.specs.declared.raw.ChildrenBytes.{ChildrenBytes}
 use Rattle.encode.proofs.EncodeUse.{below_root_lem}
 use Rattle.passes.specs.Tail.{size_from, kids_of, bytes_at}

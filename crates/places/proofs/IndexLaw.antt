@@ -1,7 +1,7 @@
 -- What the slots say of a key's first place, and one more entry.
-use Prim.Native.Nat.{ℕ, zero, suc, ◌+◌, ◌-◌, ◌<◌, ◌≤◌}
+use Prim.Native.Nat.{ℕ, suc, ◌+◌, ◌-◌, ◌<◌, ◌≤◌}
 use mathlib.Core.Bool.{Bool, true, false}
-use mathlib.Core.Logic.{◌⊎◌, inl, inr, ⊎_elim}
+use mathlib.Core.Logic.{⊎_elim}
 use mathlib.Core.Path.{◌≡◌, refl, ap, sym, ◌∙◌, subst}
 use mathlib.Core.List.{List}
 use native.Mathlib.Omega.{arith}
@@ -12,16 +12,16 @@ use Rattle.format.specs.Part.{Part}
 use Rattle.format.specs.Writer.{find}
 use Rattle.format.proofs.Each.{true_false}
 use Rattle.format.proofs.PartLaw.{same_part_lem, part_same}
-use Rattle.format.proofs.First.{find_at, find_from, find_to, find_first, none_find}
+use Rattle.format.proofs.First.{find_at, find_first, none_find}
 use Rattle.places.specs.Key.{is_key}
-use Rattle.slots.specs.Probe.{probe, occupied}
+use Rattle.slots.specs.Probe.{probe}
 use Rattle.places.specs.Index.{slot_of, Leads, Held, Finds, Filled}
 use Rattle.slots.specs.declared.probe.Looked.{Looked}
 use Rattle.slots.specs.declared.probe.Looked.TheVariants.{Found, Empty, Full}
 use Rattle.places.proofs.FindLaw.{find_on, find_here}
 use Rattle.format.proofs.Tally.{lt_or_le}
 use Rattle.slots.proofs.Cases.{eq_or_ne}
-use Rattle.slots.proofs.ProbeLaw.{Nothing, found_empty, found_full, probe_miss, probe_found, probe_empty, probe_keep, probe_new, Met, on, round, probe_full, occupied_none, occupied_set, occupied_all}
+use Rattle.slots.proofs.ProbeLaw.{Nothing, found_empty, probe_miss, probe_found, probe_empty, probe_keep, probe_new, Met, on, round, probe_full, occupied_none, occupied_set, occupied_all}
 
 -- ---- keys that are the same
 

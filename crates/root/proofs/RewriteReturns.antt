@@ -12,12 +12,11 @@ use Rattle.format.specs.Verdict.{Verdict, passed, refused, rule}
 use Rattle.format.specs.Width.{part_size}
 use Rattle.format.specs.Part.{part_words, indexed}
 use Rattle.format.specs.Word.{byte_at, put}
-use Rattle.format.specs.Span.{Span}
 use Rattle.format.specs.Write.{heavy_bytes}
 use Rattle.format.specs.Check.{Admitted}
 use Rattle.format.specs.Tables.{own_mode, own_tables}
 use Rattle.format.specs.Buffer.{word_shape, reader, buffer_check}
-use Rattle.format.specs.Root.{range_fits, new_kind, new_spans, new_parts, spans_verdict}
+use Rattle.format.specs.Root.{range_fits, new_kind, new_spans, spans_verdict}
 use Rattle.format.proofs.Each.{both, rule_passed, and_left, and_right}
 use Rattle.format.proofs.NewRoot.{root_of_lem, admitted, sizes}
 use Rattle.format.proofs.RootKind.{kind_unchecked, kind_high, kind_fits, kind_refused, kind_stored}

@@ -4,7 +4,7 @@ use mathlib.Core.Bool.{true, ◌&&◌}
 use mathlib.Core.Path.{◌≡◌, sym, ap, ◌∙◌, subst}
 use mathlib.Core.List.{List}
 use borrow.Author.Tests.{le-leb}
-use Rattle.format.specs.Verdict.{Verdict, passed}
+use Rattle.format.specs.Verdict.{passed}
 use Rattle.format.specs.Check.{listing}
 use Rattle.format.specs.Buffer.{word_shape, own_reader, buffer_check}
 use Rattle.format.specs.Root.{range_fits, kind_verdict, spans_verdict, OnlyKind, OnlySpans, with_kind, with_spans, RootOnly}

@@ -14,7 +14,6 @@ use Rattle.format.specs.Word.{put}
 use Rattle.format.specs.Width.{part_size, open_at, close_at, tree_size}
 use Rattle.format.specs.Part.{part_words}
 use Rattle.format.specs.WordList.{list_count, list_sized, list_rules, list_rows}
-use Rattle.format.specs.MakeTables as tables
 use Rattle.format.specs.MakeTables.{key_count, keys_of, table_keys, table_words, root_parts, part_table, part_counts, symbol_table, symbol_counts, tables_verdict}
 use Rattle.format.proofs.Each.{both, rule_passed, and₃, and_left, and_right, true_false}
 use Rattle.format.proofs.Put.{put_length}

@@ -1,6 +1,6 @@
 -- What the answers of `compute_span_frequencies_and_symbols` mean: the tables that it made are those of the list, and the writer's rows 1 to 5
 -- are silent over them; it refuses a list that rows 1 to 4 refuse, and a run that is too short.
-use Prim.Native.Nat.{ℕ, ◌+◌, ◌*◌, ◌-◌, ◌%◌, ◌≤◌}
+use Prim.Native.Nat.{ℕ, ◌*◌, ◌-◌, ◌%◌, ◌≤◌}
 use mathlib.Core.Path.{◌≡◌, refl, sym, ap, ◌∙◌}
 use mathlib.Core.List.{List}
 use native.Mathlib.Omega.{arith}

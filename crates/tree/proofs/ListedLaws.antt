@@ -1,13 +1,12 @@
 -- What the sort of a tree says of its values, and one law for each return of the functions of src/plain.rt.
-use Prim.Native.Nat.{ℕ, zero, suc, ◌+◌, ◌*◌, ◌-◌, ◌/◌, ◌%◌, ◌<◌, ◌≤◌}
+use Prim.Native.Nat.{ℕ, zero, suc, ◌+◌, ◌*◌, ◌/◌, ◌%◌, ◌<◌, ◌≤◌}
 use mathlib.Core.Bool.{Bool, true, false, not}
 use mathlib.Core.Path.{◌≡◌, refl, sym, ap, ◌∙◌}
 use mathlib.Core.List.{List}
 use native.Mathlib.Omega.{arith}
-use borrow.Author.Tests.{le-leb, lt-leb, leb-true, eq-eqb, ne_eqb, not-true, not-false}
+use borrow.Author.Tests.{le-leb, leb-true, eq-eqb, ne_eqb, not-false}
 use lib.Dec.{leb, eqb}
 use Rattle.format.specs.Test.{if◌then◌else◌}
-use Rattle.format.specs.Fields.{fields}
 use Rattle.format.specs.Width.{span_size, open_at, close_at}
 use Rattle.format.specs.Part.{WordSpan, span_from, no_span}
 use Rattle.format.specs.Tree.{is_raw_kind}

@@ -1,5 +1,4 @@
 -- One law for each return of the functions that make and open a report.
-use Prim.Native.Nat.{ℕ}
 use mathlib.Core.Bool.{Bool, true, false}
 use mathlib.Core.Path.{◌≡◌}
 use Rattle.format.specs.Loose.{loose_leaf, loose_shared, loose_both}

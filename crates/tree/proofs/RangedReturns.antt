@@ -2,7 +2,6 @@
 use Prim.Native.Nat.{ℕ}
 use mathlib.Core.Path.{◌≡◌}
 use borrow.Author.Tests.{ne_eqb}
-use lib.Dec.{eqb}
 use Rattle.tree.specs.Types.{spacing_of, is_raw_of, delimiter_of, lit_kind_of}
 use Rattle.tree.specs.declared.types.Spacing.TheVariants.{Alone, Joint, JointHidden}
 use Rattle.tree.specs.declared.types.IdentIsRaw.TheVariants.{No, Yes}

@@ -1,6 +1,6 @@
 -- A tree and its words: the words of the tree that was read are those words, and the tree of a tree's words is that tree.
 use Prim.Native.Nat.{ℕ, zero, suc, ◌+◌, ◌*◌, ◌/◌, ◌%◌, ◌≤◌}
-use mathlib.Core.Bool.{Bool, true, false, ◌&&◌, ◌||◌}
+use mathlib.Core.Bool.{Bool, true, false}
 use mathlib.Core.Path.{◌≡◌, refl, sym, ap, ◌∙◌}
 use mathlib.Core.List.{◌∷◌, ◌++◌}
 use native.Mathlib.Omega.{arith}
@@ -11,7 +11,7 @@ use lib.ListN.{length}
 use Rattle.format.specs.Test.{if◌then◌else◌}
 use Rattle.format.specs.Width.{open_at, close_at, tree_size}
 use Rattle.format.specs.Part.{span_list, span_from, no_span}
-use Rattle.format.specs.Fields.{span_fits, is_scalar, fields}
+use Rattle.format.specs.Fields.{is_scalar}
 use Rattle.format.specs.WordList.{word_of, tree_list, raw_from, no_close, word_fields}
 use Rattle.format.proofs.Each.{and_left, and_right, and₃}
 use Rattle.format.proofs.PartLaw.{same_span_lem}
@@ -30,7 +30,6 @@ use Rattle.tree.specs.declared.types.Literal.{Literal}
 use Rattle.tree.specs.declared.types.Leaf.TheVariants as leaves
 use Rattle.tree.specs.declared.types.TokenTree.{TokenTree}
 use Rattle.tree.specs.declared.types.TokenTree.TheVariants as trees
-use Rattle.tree.specs.declared.words.WordsRead.{WordsRead}
 use Rattle.tree.specs.declared.words.WordsRead.TheVariants.{Got, Bad}
 use Rattle.tree.proofs.WordsFit.{three, punct_fit, ident_fit, literal_fit, subtree_fit}
 use Rattle.tree.proofs.TypesWords.{spacing_again, is_raw_again, delimiter_again, kind_again, one_word}

@@ -9,7 +9,6 @@ use lib.Dec.{leb, eqb}
 use lib.ListN.{length, get_or-eq_default}
 use Rattle.format.specs.Width.{part_size, close_at, tree_size}
 use Rattle.format.specs.Part.{WordSpan, span_from, no_span, same_span}
-use Rattle.format.specs.Tree.{Raw}
 use Rattle.format.specs.Fields.{fields}
 use Rattle.format.specs.WordList.{word_of, raw_from, no_close, word_fields}
 use Rattle.format.proofs.PartLaw.{same_span_lem}

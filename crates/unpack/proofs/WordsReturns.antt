@@ -8,7 +8,7 @@ use borrow.Author.Tests.{ltb-true, leb-true, eqb-true, eq-eqb, ne_eqb}
 use lib.Dec.{ltb, leb, eqb}
 use lib.ListN.{length, get_or}
 use Rattle.format.specs.Test.{if◌then◌else◌}
-use Rattle.format.specs.Tree.{Raw, is_raw_kind}
+use Rattle.format.specs.Tree.{is_raw_kind}
 use Rattle.format.specs.Fields.{span_fits, fields}
 use Rattle.format.specs.Width.{part_size}
 use Rattle.format.specs.Part.{Part, part_at}
@@ -17,7 +17,7 @@ use Rattle.format.proofs.Each.{and_left, and_right, and₄, true_false}
 use Rattle.format.proofs.BelowRoot.{eight}
 use Rattle.pack.specs.Answer.{span_of}
 use Rattle.pack.specs.declared.span.PackedSpan.{PackedSpan}
-use Rattle.tree.specs.Raw.{raw_of, punct_raw, ident_raw, literal_raw, subtree_raw}
+use Rattle.tree.specs.Raw.{raw_of, literal_raw}
 use Rattle.tree.specs.Types.{span_with, span_list, zeros}
 use Rattle.tree.specs.Mode.{limits_of, mode_of, Whole}
 use Rattle.tree.specs.declared.limits.Limits.{Limits}

@@ -1,7 +1,7 @@
 -- One law for each return of `last_span` and its parts, with premises as the code's tests and calls give them.
 use Prim.Native.Nat.{ℕ, ◌/◌, ◌<◌, ◌≤◌}
 use mathlib.Core.Bool.{Bool, true, false, not}
-use mathlib.Core.Path.{◌≡◌, refl, sym, ap, ◌∙◌, subst}
+use mathlib.Core.Path.{◌≡◌, sym, ap, ◌∙◌, subst}
 use mathlib.Core.List.{List}
 use native.Mathlib.Omega.{arith}
 use borrow.Author.Tests.{lt-ltb, not-true}
@@ -13,8 +13,8 @@ use Rattle.format.specs.Loose.{Loose, reported_shape}
 use Rattle.format.specs.Walk as steps
 use Rattle.format.specs.Walk.{WalkCall, advance, skip, walk_step}
 use Rattle.format.specs.Width.{part_size}
-use Rattle.format.specs.Tables.{Mode, mode_tables, own_limits, own_mode}
-use Rattle.format.specs.Buffer.{word_shape, reader, own_reader}
+use Rattle.format.specs.Tables.{Mode, own_limits, own_mode}
+use Rattle.format.specs.Buffer.{word_shape, own_reader}
 use Rattle.format.specs.LastSpan.{last_after, last_tree, end_span, span_reported, last_reported}
 use Rattle.format.proofs.LastSpan.{step_less, last_step}
 use Rattle.format.proofs.OwnReported.{own_last_same}

@@ -1,4 +1,3 @@
-use Prim.Native.Nat.{◌-◌}
 use borrow.Author.Rules.{rules}
 use Rattle.text.proofs.TextReturns.{text_cases}
 use Rattle.text.proofs.put_text.Goals as goal

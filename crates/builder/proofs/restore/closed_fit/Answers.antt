@@ -1,4 +1,3 @@
-use Prim.Native.Nat.{◌-◌}
 use borrow.Author.Rules.{rules}
 use Rattle.builder.proofs.RestoreReturns.{closed_cases}
 use Rattle.builder.proofs.restore.closed_fit.Goals as goal

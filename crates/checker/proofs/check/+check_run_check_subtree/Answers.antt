@@ -1,7 +1,6 @@
 use mathlib.Core.Path.{refl}
 use borrow.Author.Rules.{rules}
 use Rattle.format.specs.Buffer.{raw_shape}
-use Rattle.checker.specs.Descent.{Upto}
 use Rattle.checker.specs.Glance.{reader_of}
 use Rattle.checker.proofs.CheckReturns.{run_cases, kids_place}
 use Rattle.checker.proofs.check.+check_run_check_subtree.Goals as goal

@@ -1,10 +1,9 @@
-use Prim.Native.Nat.{ℕ, ◌+◌, ◌*◌, ◌-◌, ◌<◌}
+use Prim.Native.Nat.{◌+◌, ◌*◌, ◌-◌}
 use Rattle.format.proofs.NestRun.{run}
 use Rattle.format.specs.Check.{listing}
 use Rattle.format.specs.Buffer.{raw_shape}
 use Rattle.checker.specs.Descent.{Upto}
 use Rattle.checker.specs.Glance.{reader_of}
-use Rattle.checker.proofs.CheckReturns.{run_cases, kids_place}
 use Rattle.checker.proofs.check.+check_run_check_subtree.Given as goal
 
 abbrev pub decreases-check_run : goal.decreases-check_run

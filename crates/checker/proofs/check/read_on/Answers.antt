@@ -1,4 +1,3 @@
-use Prim.Native.Nat.{◌-◌}
 use borrow.Author.Rules.{rules}
 use Rattle.checker.proofs.CheckReturns.{read_cases}
 use Rattle.checker.proofs.check.read_on.Goals as goal

@@ -1,4 +1,3 @@
-use Prim.Native.Nat.{◌-◌}
 use borrow.Author.Rules.{rules}
 use Rattle.distinct.proofs.ClassReturns.{by_class_cases}
 use Rattle.distinct.proofs.classes.by_class.Goals as goal

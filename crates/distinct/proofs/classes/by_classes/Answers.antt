@@ -1,4 +1,3 @@
-use Prim.Native.Nat.{◌-◌}
 use borrow.Author.Rules.{rules}
 use Rattle.distinct.proofs.ClassReturns.{by_classes_cases}
 use Rattle.distinct.proofs.classes.by_classes.Goals as goal

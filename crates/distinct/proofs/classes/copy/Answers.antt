@@ -1,4 +1,3 @@
-use Prim.Native.Nat.{◌-◌}
 use borrow.Author.Rules.{rules}
 use Rattle.distinct.proofs.ClassReturns.{copy_cases}
 use Rattle.distinct.proofs.classes.copy.Goals as goal

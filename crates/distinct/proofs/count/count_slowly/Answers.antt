@@ -1,5 +1,4 @@
 use Rattle.distinct.proofs.CountReturns.{count_cases}
-use Prim.Native.Nat.{◌-◌}
 use borrow.Author.Rules.{rules}
 use Rattle.distinct.proofs.count.count_slowly.Goals as goal
 

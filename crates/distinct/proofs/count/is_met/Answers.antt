@@ -1,5 +1,4 @@
 use Rattle.distinct.proofs.CountReturns.{fresh_cases}
-use Prim.Native.Nat.{◌-◌}
 use borrow.Author.Rules.{rules}
 use Rattle.distinct.proofs.count.is_met.Goals as goal
 

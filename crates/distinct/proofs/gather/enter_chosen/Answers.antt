@@ -1,4 +1,3 @@
-use Prim.Native.Nat.{◌-◌}
 use borrow.Author.Rules.{rules}
 use Rattle.distinct.proofs.SelectReturns.{chosen_cases, chosen_many, chosen_again}
 use Rattle.distinct.proofs.gather.enter_chosen.Goals as goal

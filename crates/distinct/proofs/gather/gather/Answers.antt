@@ -1,4 +1,3 @@
-use Prim.Native.Nat.{◌-◌}
 use borrow.Author.Rules.{rules}
 use Rattle.distinct.proofs.SelectReturns.{all_cases}
 use Rattle.distinct.proofs.GatherReturns.{gather_cases}

@@ -1,4 +1,3 @@
-use Prim.Native.Nat.{◌-◌}
 use borrow.Author.Rules.{rules}
 use Rattle.distinct.proofs.GatherReturns.{rank_cases}
 use Rattle.distinct.proofs.gather.look.Goals as goal

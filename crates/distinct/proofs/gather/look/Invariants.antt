@@ -2,7 +2,7 @@ use Rattle.slots.specs.Probe.{probe}
 use Rattle.distinct.specs.Gathered.{like_rank}
 use lib.ListN.{length}
 use mathlib.Core.Path.{◌≡◌}
-use Prim.Native.Nat.{◌-◌, ◌<◌}
+use Prim.Native.Nat.{◌<◌}
 use Rattle.distinct.proofs.gather.look.Given as goal
 
 abbrev pub invariant-loop-left : goal.invariant-loop-left

@@ -1,5 +1,4 @@
 use Rattle.distinct.proofs.ScanReturns.{find_cases}
-use Prim.Native.Nat.{◌-◌}
 use borrow.Author.Rules.{rules}
 use Rattle.distinct.proofs.scan.find.Goals as goal
 

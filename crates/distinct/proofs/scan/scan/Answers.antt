@@ -1,4 +1,3 @@
-use Prim.Native.Nat.{◌-◌}
 use borrow.Author.Rules.{rules}
 use Rattle.distinct.proofs.ScanReturns.{scan_cases}
 use Rattle.distinct.proofs.scan.scan.Goals as goal

@@ -1,4 +1,3 @@
-use Prim.Native.Nat.{◌-◌}
 use borrow.Author.Rules.{rules}
 use Rattle.distinct.proofs.SelectReturns.{choose_cases}
 use Rattle.distinct.proofs.select.select_parts.Goals as goal

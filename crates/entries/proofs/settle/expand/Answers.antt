@@ -1,4 +1,3 @@
-use Prim.Native.Nat.{◌-◌}
 use borrow.Author.Rules.{rules}
 use Rattle.entries.proofs.SettleReturns.{expand_cases}
 use Rattle.entries.proofs.settle.expand.Goals as goal

@@ -1,7 +1,7 @@
 use Rattle.entries.specs.Settle.{Expanding}
 use lib.ListN.{length}
 use mathlib.Core.Path.{◌≡◌}
-use Prim.Native.Nat.{◌-◌, ◌≤◌}
+use Prim.Native.Nat.{◌≤◌}
 use Rattle.entries.proofs.settle.expand.Given as goal
 
 abbrev pub invariant-loop-k : goal.invariant-loop-k

@@ -1,4 +1,3 @@
-use Prim.Native.Nat.{◌-◌}
 use borrow.Author.Rules.{rules}
 use Rattle.entries.proofs.TableReturns.{emit_cases}
 use Rattle.entries.proofs.table.emit.Goals as goal

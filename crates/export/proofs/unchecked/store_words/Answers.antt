@@ -1,4 +1,3 @@
-use Prim.Native.Nat.{◌-◌}
 use borrow.Author.Rules.{rules}
 use Rattle.export.proofs.StoreCases.{store_cases}
 use Rattle.export.proofs.unchecked.store_words.Goals as goal

@@ -1,4 +1,3 @@
-use Prim.Native.Nat.{◌-◌}
 use mathlib.Core.Path.{◌≡◌}
 use Rattle.format.specs.Verdict.{refused}
 use Rattle.tree.specs.Refusal.{verdict_answer}

@@ -1,4 +1,3 @@
-use Prim.Native.Nat.{◌-◌}
 use borrow.Author.Rules.{rules}
 use Rattle.list.proofs.Returns.{next_cases}
 use Rattle.list.proofs.sized.next_subtree.Goals as goal

@@ -1,4 +1,3 @@
-use Prim.Native.Nat.{◌-◌}
 use borrow.Author.Rules.{rules}
 use Rattle.list.proofs.Returns.{row_two_cases}
 use Rattle.list.proofs.sized.row_two.Goals as goal

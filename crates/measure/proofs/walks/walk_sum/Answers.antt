@@ -1,4 +1,3 @@
-use Prim.Native.Nat.{◌-◌}
 use borrow.Author.Rules.{rules}
 use Rattle.measure.proofs.SumReturns.{walk_sum_cases}
 use Rattle.measure.proofs.walks.walk_sum.Goals as goal

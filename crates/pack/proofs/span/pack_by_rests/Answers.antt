@@ -62,6 +62,6 @@ put_three-requires c = search (rules, pack_rests_cases)
 pub returns : goal.returns
 returns c =
     elim c.if-not-heavy.branch [
-      then-not-heavy+else-are_none+else-fit_second_word w ↦ search (rules, pack_rests_cases)
-    | else-not-heavy w ↦ search (rules, pack_rests_cases)
+      | then-not-heavy+else-are_none+else-fit_second_word w ↦ search (rules, pack_rests_cases)
+      | else-not-heavy w ↦ search (rules, pack_rests_cases)
     ]

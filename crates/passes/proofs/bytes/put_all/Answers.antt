@@ -1,4 +1,3 @@
-use Prim.Native.Nat.{◌-◌}
 use borrow.Author.Rules.{rules}
 use Rattle.passes.proofs.BytesReturns.{put_all_cases}
 use Rattle.passes.proofs.bytes.put_all.Goals as goal

@@ -1,4 +1,3 @@
-use Prim.Native.Nat.{◌-◌}
 use borrow.Author.Rules.{rules}
 use Rattle.passes.proofs.FiveReturns.{absent_cases}
 use Rattle.passes.proofs.five.first_absent.Goals as goal

@@ -1,4 +1,3 @@
-use Prim.Native.Nat.{◌-◌}
 use borrow.Author.Rules.{rules}
 use Rattle.passes.proofs.FiveReturns.{five_cases}
 use Rattle.passes.proofs.five.row_five.Goals as goal

@@ -1,4 +1,3 @@
-use Prim.Native.Nat.{◌-◌}
 use borrow.Author.Rules.{rules}
 use Rattle.passes.proofs.SizesReturns.{size_run_cases}
 use Rattle.passes.proofs.sizes.size_run.Goals as goal

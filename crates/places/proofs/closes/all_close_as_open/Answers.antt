@@ -1,4 +1,3 @@
-use Prim.Native.Nat.{◌-◌}
 use borrow.Author.Rules.{rules}
 use Rattle.places.proofs.ClosesReturns.{all_as_open_cases}
 use Rattle.places.proofs.closes.all_close_as_open.Goals as goal

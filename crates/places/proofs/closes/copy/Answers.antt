@@ -1,4 +1,3 @@
-use Prim.Native.Nat.{◌-◌}
 use borrow.Author.Rules.{rules}
 use Rattle.places.proofs.ClosesReturns.{copy_cases, copied_more}
 use Rattle.places.proofs.closes.copy.Goals as goal

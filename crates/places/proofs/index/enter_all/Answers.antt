@@ -1,4 +1,3 @@
-use Prim.Native.Nat.{◌-◌}
 use borrow.Author.Rules.{rules}
 use Rattle.places.proofs.IndexReturns.{enter_all_cases}
 use Rattle.places.proofs.index.enter_all.Goals as goal

@@ -1,4 +1,3 @@
-use Prim.Native.Nat.{◌-◌}
 use borrow.Author.Rules.{rules}
 use Rattle.places.proofs.IndexReturns.{fill_cases}
 use Rattle.places.proofs.index.fill.Goals as goal

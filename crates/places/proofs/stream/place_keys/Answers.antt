@@ -1,4 +1,3 @@
-use Prim.Native.Nat.{◌-◌}
 use borrow.Author.Rules.{rules}
 use Rattle.places.proofs.StreamReturns.{run_cases}
 use Rattle.slots.proofs.Cases.{kept}

@@ -1,4 +1,3 @@
-use Prim.Native.Nat.{◌-◌}
 use borrow.Author.Rules.{rules}
 use Rattle.places.proofs.StreamReturns.{spread_cases}
 use Rattle.places.proofs.stream.spread.Goals as goal

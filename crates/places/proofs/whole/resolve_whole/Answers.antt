@@ -1,4 +1,3 @@
-use Prim.Native.Nat.{◌-◌}
 use borrow.Author.Rules.{rules}
 use Rattle.places.proofs.WholeReturns.{resolve_whole_cases}
 use Rattle.slots.proofs.Cases.{kept}

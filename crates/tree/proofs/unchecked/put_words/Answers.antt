@@ -1,4 +1,3 @@
-use Prim.Native.Nat.{◌-◌}
 use borrow.Author.Rules.{rules}
 use Rattle.tree.proofs.StoreReturns.{put_cases}
 use Rattle.tree.proofs.unchecked.put_words.Goals as goal

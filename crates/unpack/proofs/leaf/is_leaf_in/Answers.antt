@@ -1,4 +1,3 @@
-use Prim.Native.Nat.{◌-◌}
 use borrow.Author.Rules.{rules}
 use Rattle.unpack.proofs.LeafReturns.{leaf_cases}
 use Rattle.unpack.proofs.leaf.is_leaf_in.Goals as goal

@@ -1,4 +1,3 @@
-use Prim.Native.Nat.{◌-◌}
 use borrow.Author.Rules.{rules}
 use Rattle.unpack.proofs.ListReturns.{unpacked_cases}
 use Rattle.unpack.proofs.list.unpack_in.Goals as goal
