@@ -11,7 +11,7 @@ use Rattle.format.specs.Tables.{own_mode, own_tables}
 use Rattle.format.specs.WordList.{tree_list, word_of, word_fields, list_count, given, list_sized, row_two, list_rules, list_rows}
 use Rattle.format.specs.Width.{tree_size}
 use Rattle.format.specs.Part.{WordSpan, span_list}
-use Rattle.format.specs.Test.{if◌then◌else◌}
+use Rattle.std.specs.Prelude.{if◌then◌else◌}
 use Rattle.format.specs.Verdict.{passed, ◌and_then◌, rule, each}
 use Rattle.format.specs.Plain.{Listing, end_of, sub}
 use Rattle.format.specs.Nest.{nest}

@@ -11,7 +11,7 @@ use lib.Seq.{take_at, take-append-le, length-take-le}
 use Rattle.format.specs.WordList.{tree_list, word_of, list_count}
 use Rattle.format.specs.Width.{close_at, tree_size}
 use Rattle.format.specs.Part.{WordSpan, span_list}
-use Rattle.format.specs.Test.{if◌then◌else◌}
+use Rattle.std.specs.Prelude.{if◌then◌else◌}
 use Rattle.format.specs.Verdict.{Verdict, passed, refused, ◌and_then◌, contents, rule, each_from}
 use Rattle.format.specs.Word.{put}
 use Rattle.format.specs.Root.{range_fits}

@@ -9,7 +9,7 @@ use borrow.Author.Tests.{ltb-true, eqb-true, not-true}
 use lib.Dec.{ltb, leb, eqb}
 use lib.ListN.{length, get_or, set, length-set}
 use lib.Seq.{get_or-set_same, get_or-set_other}
-use Rattle.format.specs.Test.{if◌then◌else◌}
+use Rattle.std.specs.Prelude.{if◌then◌else◌}
 use Rattle.format.specs.Verdict.{Verdict, passed, refused, ◌and_then◌, contents, rule, each_from}
 use Rattle.format.specs.Builder.{open_fit, sub_at, disagrees, reaches_past, but_last, open_before, point_fits, open_verdict, restore_verdict, restored, Step, push, open_subtree, close_subtree, restore, step_verdict, step_builder, step_words, builder_step}
 use Rattle.format.specs.Builder as format

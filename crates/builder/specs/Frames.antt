@@ -1,8 +1,7 @@
 -- The plain model of the builder, with no run of words: a stack of frames, one for the root and one for each open subtree.
 -- A frame has what its subtree was opened with and the trees made in it so far.
-use Rattle.std.specs.Prelude.{ℕ, zero, suc, ◌+◌, ◌-◌, List, [], ◌∷◌, ◌++◌, Bool, true, false, ◌&&◌, length, take, leb, eqb}
+use Rattle.std.specs.Prelude.{ℕ, zero, suc, ◌+◌, ◌-◌, List, [], ◌∷◌, ◌++◌, Bool, true, false, ◌&&◌, length, take, leb, eqb, if◌then◌else◌}
 use Rattle.format.specs.Part.{WordSpan}
-use Rattle.format.specs.Test.{if◌then◌else◌}
 use Rattle.format.specs.Verdict.{Verdict, passed, refused}
 use Rattle.format.specs.Buffer.{word_shape}
 use Rattle.format.specs.Builder.{Builder, subtree_words, leaf_words, Step, push, open_subtree, close_subtree, restore, new, builder_step}

@@ -1,6 +1,5 @@
 -- What the steps are given, as the definitions have it.
-use Rattle.std.specs.Prelude.{ℕ, List, ◌∷◌, ◌++◌}
-use Rattle.format.specs.Test.{if◌then◌else◌}
+use Rattle.std.specs.Prelude.{ℕ, List, ◌∷◌, ◌++◌, if◌then◌else◌}
 use Rattle.format.specs.Part.{span_list, no_span}
 use Rattle.tree.specs.Types.{tree_words_of}
 use Rattle.tree.specs.Words.{token_fits}

@@ -1,6 +1,5 @@
 -- What a step answers, and what the builder and the run are then, for every builder and every run.
-use Rattle.std.specs.Prelude.{ℕ, ◌+◌, ◌-◌, ◌≡◌, List, set, replicate, leb}
-use Rattle.format.specs.Test.{if◌then◌else◌}
+use Rattle.std.specs.Prelude.{ℕ, ◌+◌, ◌-◌, ◌≡◌, List, set, replicate, leb, if◌then◌else◌}
 use Rattle.format.specs.Verdict.{contents}
 use Rattle.format.specs.Builder.{Step, push, open_subtree, close_subtree, restore, new_verdict, new, builder_step}
 use Rattle.tree.specs.Refusal.{verdict_answer}

@@ -1,6 +1,5 @@
 // Restore points: `restore_point` and `restore`. Neither writes into the run.
-ghost use Rattle.std.specs.Prelude.{◌≡◌, ◌+◌, ◌*◌, ◌≤◌, ◌<◌, ltb, length};
-ghost use Rattle.format.specs.Test.{if◌then◌else◌};
+ghost use Rattle.std.specs.Prelude.{◌≡◌, ◌+◌, ◌*◌, ◌≤◌, ◌<◌, ltb, length, if◌then◌else◌};
 ghost use Rattle.format.specs.WordList.{list_count};
 ghost use Rattle.format.specs.Builder.{is_among, open_before, reaches_past, point_fits};
 ghost use Rattle.format.specs.Builder.{point_verdict, restore_point, restore_verdict, restore};

@@ -1,6 +1,5 @@
 -- What reading a bundle answers, case by case: its counts and the place of its bytes, which are its last.
-use Rattle.std.specs.Prelude.{ℕ, ◌+◌, ◌-◌, ◌/◌, Bool, ◌&&◌, List, leb, length}
-use Rattle.format.specs.Test.{if◌then◌else◌}
+use Rattle.std.specs.Prelude.{ℕ, ◌+◌, ◌-◌, ◌/◌, Bool, ◌&&◌, List, leb, length, if◌then◌else◌}
 use Rattle.format.specs.Word.{word_at}
 use Rattle.format.specs.Width.{part_size}
 use Rattle.format.specs.Bundle as format

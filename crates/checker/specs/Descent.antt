@@ -1,6 +1,5 @@
 -- What a descent over the trees of a buffer has found out, of any reader: it has come to a tree, or has stopped at one.
-use Rattle.std.specs.Prelude.{ℕ, ◌+◌, ◌-◌, ◌≤◌, true, false, ◌≡◌, ltb}
-use Rattle.format.specs.Test.{if◌then◌else◌}
+use Rattle.std.specs.Prelude.{ℕ, ◌+◌, ◌-◌, ◌≤◌, true, false, ◌≡◌, ltb, if◌then◌else◌}
 use Rattle.format.specs.Verdict.{Verdict, passed, refused, ◌and_then◌, each_from, each}
 use Rattle.format.specs.Reader.{Shape, Reader}
 use Rattle.format.specs.Plain.{end_of, sub}

@@ -1,6 +1,5 @@
 -- What the answers of the check's functions say. Not document 01's words: the contracts of `check` and `check_buffer` do without these.
-use Rattle.std.specs.Prelude.{ℕ, Bool, ◌&&◌, ◌≡◌, ltb, leb}
-use Rattle.format.specs.Test.{if◌then◌else◌}
+use Rattle.std.specs.Prelude.{ℕ, Bool, ◌&&◌, ◌≡◌, ltb, leb, if◌then◌else◌}
 use Rattle.format.specs.Verdict.{Verdict, passed, refused}
 use Rattle.format.specs.Reader.{Shape, Reader}
 use Rattle.format.specs.Tables.{tables_sized}

@@ -5,7 +5,7 @@ use mathlib.Core.List.{List, [], ◌∷◌, map}
 use lib.Dec.{eqb}
 use lib.ListN.{length, set, length-set, length-replicate}
 use mathlib.Core.Bool.{Bool, true, false}
-use Rattle.format.specs.Test.{if◌then◌else◌}
+use Rattle.std.specs.Prelude.{if◌then◌else◌}
 use Rattle.format.specs.Verdict.{passed}
 use Rattle.format.specs.Reader.{Reader, Answer}
 use Rattle.format.specs.Cursor as calls

@@ -1,6 +1,5 @@
 -- What the calls that look promise.
-use Rattle.std.specs.Prelude.{ℕ, ◌+◌, true, false, ◌≡◌, List, [], ◌∷◌}
-use Rattle.format.specs.Test.{if◌then◌else◌}
+use Rattle.std.specs.Prelude.{ℕ, ◌+◌, true, false, ◌≡◌, List, [], ◌∷◌, if◌then◌else◌}
 use Rattle.format.specs.Reader as format
 use Rattle.format.specs.Cursor.{token_tree, peek_two_leaves, tree_here, second_leaf, first_leaf, cursor_step}
 use Rattle.format.specs.Tables.{Mode}

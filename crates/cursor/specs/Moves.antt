@@ -1,6 +1,5 @@
 -- What a call that moves the cursor promises, by value and over lent arrays alike.
-use Rattle.std.specs.Prelude.{ℕ, ◌+◌, ◌-◌, ◌≡◌, List, [], ◌∷◌, eqb, length, set, replicate}
-use Rattle.format.specs.Test.{if◌then◌else◌}
+use Rattle.std.specs.Prelude.{ℕ, ◌+◌, ◌-◌, ◌≡◌, List, [], ◌∷◌, eqb, length, set, replicate, if◌then◌else◌}
 use Rattle.format.specs.Cursor as calls
 use Rattle.format.specs.Cursor.{Open, CursorCall, cursor_step}
 use Rattle.format.specs.Tables.{Mode}

@@ -1,6 +1,5 @@
 -- Tree n of a buffer as the source's tree: read, judged, and its indices looked up.
-use Rattle.std.specs.Prelude.{ℕ, List}
-use Rattle.format.specs.Test.{if◌then◌else◌}
+use Rattle.std.specs.Prelude.{ℕ, List, if◌then◌else◌}
 use Rattle.format.specs.Reader.{Reply, got, bad}
 use Rattle.format.specs.Tree.{Raw, tree_at}
 use Rattle.format.specs.Tables.{rules, Mode, mode_tables, own_mode, own_tables}

@@ -1,6 +1,5 @@
 -- The rows of one tree whose bytes are there and whose fields are in range: the root's form, then its indices.
-use Rattle.std.specs.Prelude.{ℕ, Bool, true, eqb}
-use Rattle.format.specs.Test.{if◌then◌else◌}
+use Rattle.std.specs.Prelude.{ℕ, Bool, true, eqb, if◌then◌else◌}
 use Rattle.format.specs.Reader.{Reply, got, bad}
 use Rattle.format.specs.Tree.{Raw}
 use Rattle.format.specs.Tables.{TableRules, Limits, indexed_below, indexed_root, row_eight}

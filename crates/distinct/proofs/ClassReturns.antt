@@ -8,7 +8,7 @@ use native.Mathlib.Omega.{arith}
 use lib.ListN.{length, get_or, set, replicate, length-set, length-replicate}
 use lib.Seq.{get_or-set_same, get_or-set_other, take_all}
 use lib.Dec.{ltb}
-use Rattle.format.specs.Test.{if◌then◌else◌}
+use Rattle.std.specs.Prelude.{if◌then◌else◌}
 use Rattle.format.specs.Distinct.{tally, news}
 use Rattle.format.proofs.Tally.{amount, lt_or_le, lt_ne, tally_all, tally_same, amount_all}
 use Rattle.format.specs.MakeTables.{alike_at, key_count, limit_of, keys_of, times_of}

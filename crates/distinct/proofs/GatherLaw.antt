@@ -7,7 +7,7 @@ use mathlib.Core.List.{List, [], ◌∷◌, ◌++◌}
 use native.Mathlib.Omega.{arith}
 use lib.ListN.{length, get_or, set, replicate, length-set, length-replicate, length-append, get_or-append}
 use lib.Seq.{get_or-set_same, get_or-set_other, get_or_at}
-use Rattle.format.specs.Test.{if◌then◌else◌}
+use Rattle.std.specs.Prelude.{if◌then◌else◌}
 use Rattle.format.specs.Distinct.{news, hits, times}
 use Rattle.format.proofs.Tally.{lt_or_le, lt_ne, tally_step}
 use Rattle.format.proofs.NewsLaw.{Likeness, news_dead, news_old, news_new, news_apart, news_unmet}

@@ -7,7 +7,7 @@ use mathlib.Core.List.{List, [], ◌∷◌, ◌++◌}
 use native.Mathlib.Omega.{arith}
 use lib.ListN.{length, get_or, set, length-set, length-append}
 use lib.Seq.{get_or-set_other}
-use Rattle.format.specs.Test.{if◌then◌else◌}
+use Rattle.std.specs.Prelude.{if◌then◌else◌}
 use Rattle.format.specs.Distinct.{any_in, tally, news}
 use Rattle.format.specs.MakeTables.{key_count, live_at, alike_at, keys_of}
 use Rattle.format.proofs.KeyLaw.{likeness}

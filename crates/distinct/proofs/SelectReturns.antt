@@ -6,7 +6,7 @@ use mathlib.Core.List.{List}
 use native.Mathlib.Omega.{arith}
 use lib.ListN.{length, get_or, set, replicate, length-replicate}
 use borrow.Author.Tests.{le-leb}
-use Rattle.format.specs.Test.{if◌then◌else◌}
+use Rattle.std.specs.Prelude.{if◌then◌else◌}
 use Rattle.format.specs.MakeTables.{key_count}
 use Rattle.keys.specs.Keys.{live_in}
 use Rattle.distinct.specs.Select.{number_of, trees_of, lead_of, Selected}

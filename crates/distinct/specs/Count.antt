@@ -1,6 +1,5 @@
 -- How many distinct keys there are, key by key, and whether there is room for them.
-use Rattle.std.specs.Prelude.{ℕ, ◌+◌, ◌≤◌, ◌≡◌, Bool, ◌&&◌, List, length, leb}
-use Rattle.format.specs.Test.{if◌then◌else◌}
+use Rattle.std.specs.Prelude.{ℕ, ◌+◌, ◌≤◌, ◌≡◌, Bool, ◌&&◌, List, length, leb, if◌then◌else◌}
 use Rattle.format.specs.Distinct.{any_in, news}
 use Rattle.format.specs.MakeTables.{live_at, alike_at, keys_of}
 use Rattle.keys.specs.Keys.{place_in}

@@ -1,7 +1,6 @@
 // The numbers of a stretch of trees that are keys. Every number is stored, and the next one over it if it is no key:
 // there is no branch on the sort of a tree.
-ghost use Rattle.std.specs.Prelude.{◌≡◌, false, ◌+◌, ◌*◌, ◌≤◌, ◌<◌, length};
-ghost use Rattle.format.specs.Test.{if◌then◌else◌};
+ghost use Rattle.std.specs.Prelude.{◌≡◌, false, ◌+◌, ◌*◌, ◌≤◌, ◌<◌, length, if◌then◌else◌};
 ghost use Rattle.format.specs.MakeTables.{key_count};
 ghost use Rattle.keys.specs.Keys.{live_in};
 ghost use Rattle.distinct.specs.Select.{number_of, Selected};

@@ -6,7 +6,7 @@ use native.Mathlib.Omega.{arith}
 use borrow.Author.Tests.{lt-ltb, le-leb, lt-leb, eq-eqb, ne_eqb, le-ltb, not-true, not-false}
 use lib.Dec.{ltb, leb, eqb}
 use lib.ListN.{length, length-append}
-use Rattle.format.specs.Test.{if◌then◌else◌}
+use Rattle.std.specs.Prelude.{if◌then◌else◌}
 use Rattle.format.specs.Span.{Span}
 use Rattle.format.specs.Tree.{punct, ident, literal, subtree, is_raw_kind}
 use Rattle.format.specs.Write.{span_bytes, symbol_bytes, short_base, near, fits000, fits001, fits010, literal_bytes, subtree_bytes, tree_bytes}

@@ -1,6 +1,5 @@
 -- The form of a subtree below the root, and the reply and contents of writing one tree, for every input.
-use Rattle.std.specs.Prelude.{ℕ, Bool, ◌&&◌, ◌≡◌, List, length, ltb}
-use Rattle.format.specs.Test.{if◌then◌else◌}
+use Rattle.std.specs.Prelude.{ℕ, Bool, ◌&&◌, ◌≡◌, List, length, ltb, if◌then◌else◌}
 use Rattle.format.specs.Verdict.{Verdict, ◌and_then◌, rule, report}
 use Rattle.format.specs.Verdict as verdict
 use Rattle.format.specs.Word.{put}

@@ -1,6 +1,5 @@
 -- What a punct or an ident takes behind its span.
-use Rattle.std.specs.Prelude.{ℕ, length, ltb, eqb}
-use Rattle.format.specs.Test.{if◌then◌else◌}
+use Rattle.std.specs.Prelude.{ℕ, length, ltb, eqb, if◌then◌else◌}
 use Rattle.format.specs.Write.{symbol_bytes}
 
 unfoldable pub char_size : ℕ → ℕ

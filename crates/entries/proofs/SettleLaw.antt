@@ -9,7 +9,7 @@ use lib.ListN.{length, get_or, take, drop, length-drop, get_or-append}
 use lib.Seq.{sets, sets-eq, drop-cons, drop_at, get_or-take, get_or-drop, ext_get_or, length-take-le, length-sets, drop-length}
 use lib.Dec.{eqb}
 use borrow.Author.Tests.{eqb-true, eq-eqb}
-use Rattle.format.specs.Test.{if◌then◌else◌}
+use Rattle.std.specs.Prelude.{if◌then◌else◌}
 use Rattle.format.specs.Word.{put}
 use Rattle.format.specs.Distinct.{tally}
 use Rattle.format.specs.Order.{before}

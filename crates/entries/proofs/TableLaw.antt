@@ -8,7 +8,7 @@ use native.Mathlib.Numerals.{add-one}
 use lib.ListN.{length, get_or, set, take, length-map}
 use lib.Seq.{sets, sets-eq, take-suc, take_all, length-take-le}
 use lib.Dec.{leb}
-use Rattle.format.specs.Test.{if◌then◌else◌}
+use Rattle.std.specs.Prelude.{if◌then◌else◌}
 use Rattle.format.specs.Word.{put}
 use Rattle.format.specs.Order.{range, before, insert, falling, ordered}
 use Rattle.format.specs.Width.{part_size}

@@ -1,6 +1,5 @@
 -- Replies in one number, and what reading leaves in lent words.
-use Rattle.std.specs.Prelude.{ℕ, ◌+◌, ◌≡◌, Bool, List, [], ◌∷◌, ◌++◌, ltb, length}
-use Rattle.format.specs.Test.{if◌then◌else◌}
+use Rattle.std.specs.Prelude.{ℕ, ◌+◌, ◌≡◌, Bool, List, [], ◌∷◌, ◌++◌, ltb, length, if◌then◌else◌}
 use Rattle.format.specs.Width.{tree_size}
 use Rattle.format.specs.Word.{put}
 use Rattle.format.specs.Span.{Span, span_at, symbol_at}

@@ -1,6 +1,5 @@
 -- Answers of walk steps and cursor calls in one number, and what they leave in lent words.
-use Rattle.std.specs.Prelude.{ℕ, ◌+◌, Bool, true, false, ◌≡◌, List, [], ◌∷◌, ◌++◌, ltb, length}
-use Rattle.format.specs.Test.{if◌then◌else◌}
+use Rattle.std.specs.Prelude.{ℕ, ◌+◌, Bool, true, false, ◌≡◌, List, [], ◌∷◌, ◌++◌, ltb, length, if◌then◌else◌}
 use Rattle.format.specs.Width.{span_size, tree_size}
 use Rattle.format.specs.Word.{put}
 use Rattle.format.specs.Reader.{Answer, done, none, one, two, refused, mapped}

@@ -8,7 +8,7 @@ use native.Mathlib.Numerals.{add-one}
 use borrow.Author.Tests.{eqb-true, ne_eqb, ltb-true, leb-true}
 use lib.Dec.{leb, eqb}
 use lib.ListN.{length, get_or}
-use Rattle.format.specs.Test.{if◌then◌else◌}
+use Rattle.std.specs.Prelude.{if◌then◌else◌}
 use Rattle.format.specs.Word.{byte_at}
 use Rattle.format.specs.Span.{Span}
 use Rattle.format.specs.Reader.{Shape, Reader, Reply, got}

@@ -5,7 +5,7 @@ use mathlib.Core.Path.{◌≡◌, refl, sym, ap, ◌∙◌, subst}
 use native.Mathlib.Omega.{arith}
 use borrow.Author.Tests.{le-leb, lt-leb, le-ltb, ne_eqb, eqb-true, eqb-false, ltb-true, ltb-false, leb-false}
 use lib.Dec.{leb, eqb, ltb}
-use Rattle.format.specs.Test.{if◌then◌else◌}
+use Rattle.std.specs.Prelude.{if◌then◌else◌}
 use Rattle.format.specs.Reader.{Shape, Reader, Reply, got, bad, Answer, done, none, one, two, refused}
 use Rattle.format.specs.Walk.{Walk, WalkCall, advance, skip, walk_fits, walk_read, walk_step, fresh_walk}
 use Rattle.format.specs.LastSpan.{last_after, last_for, last_tree}

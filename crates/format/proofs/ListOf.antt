@@ -8,7 +8,7 @@ use borrow.Author.Tests.{lt-ltb, eq-eqb, leb-true, ltb-true, eqb-true, eqb-false
 use lib.Dec.{leb, eqb, ltb}
 use lib.ListN.{length, get_or, take, drop, length-append}
 use lib.Seq.{take_at, drop_at}
-use Rattle.format.specs.Test.{if◌then◌else◌}
+use Rattle.std.specs.Prelude.{if◌then◌else◌}
 use Rattle.format.specs.Verdict.{Verdict, passed, refused, each}
 use Rattle.format.specs.Reader.{Shape, Reader}
 use Rattle.format.specs.Plain.{Listing, end_of, sub}

@@ -7,7 +7,7 @@ use mathlib.Core.List.{List, [], ◌∷◌, ◌++◌, map}
 use native.Mathlib.Omega.{arith}
 use lib.ListN.{length, get_or, length-append, get_or-append}
 use lib.Seq.{get_or_at}
-use Rattle.format.specs.Test.{if◌then◌else◌}
+use Rattle.std.specs.Prelude.{if◌then◌else◌}
 use Rattle.format.specs.Distinct.{any_in, tally, news, hits, times}
 use Rattle.format.proofs.Tally.{amount, lt_or_le, any_none, any_at, any_some, tally_none, tally_step, amount_none, amount_one, total}
 use Rattle.format.proofs.Each.{true_false}

@@ -6,7 +6,7 @@ use mathlib.Core.List.{List}
 use native.Mathlib.Omega.{arith}
 use borrow.Author.Tests.{leb-true, eqb-true}
 use lib.Dec.{leb}
-use Rattle.format.specs.Test.{if◌then◌else◌}
+use Rattle.std.specs.Prelude.{if◌then◌else◌}
 use Rattle.format.specs.Verdict.{passed}
 use Rattle.format.specs.Reader.{Shape, Reader, got, Answer, done, none, one, two, refused, mapped}
 use Rattle.format.specs.Walk.{Walk, skip, fresh_walk}

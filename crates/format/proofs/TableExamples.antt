@@ -5,7 +5,7 @@ use mathlib.Core.List.{List, [], ◌∷◌, ◌++◌}
 use mathlib.Core.Bool.{true}
 use lib.ListN.{replicate}
 use lib.Dec.{eqb}
-use Rattle.format.specs.Test.{if◌then◌else◌}
+use Rattle.std.specs.Prelude.{if◌then◌else◌}
 use Rattle.format.specs.Verdict.{passed, refused, each_from}
 use Rattle.format.specs.Nest.{nest_from, still_open}
 use Rattle.format.specs.Word.{put}

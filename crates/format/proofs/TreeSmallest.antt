@@ -7,7 +7,7 @@ use native.Mathlib.Omega.{arith}
 use borrow.Author.Tests.{le-leb, eq-eqb, lt-ltb, eqb-true}
 use lib.Dec.{leb, eqb, ltb}
 use lib.ListN.{length, length-append}
-use Rattle.format.specs.Test.{if◌then◌else◌}
+use Rattle.std.specs.Prelude.{if◌then◌else◌}
 use Rattle.format.specs.Word.{AreBytes, byte_at, half_at, word_at, half_bytes, word_bytes}
 use Rattle.format.specs.Span.{Span, SpanRead, span, span_at, SymbolRead, symbol, symbol_at}
 use Rattle.format.specs.Reader.{Reply, got, bad}

@@ -10,7 +10,7 @@ use borrow.Author.Tests.{le-leb, leb-true, leb-false, lt-ltb, ltb-true, eqb-true
 use lib.Dec.{leb, eqb, ltb}
 use lib.ListN.{length, replicate, get_or, length-append, length-replicate, get_or-append}
 use lib.Seq.{get_or-append-add}
-use Rattle.format.specs.Test.{if◌then◌else◌}
+use Rattle.std.specs.Prelude.{if◌then◌else◌}
 use Rattle.format.specs.Word.{AreBytes, byte_at, word_at}
 use Rattle.format.specs.Span.{Span, SpanRead, span, span_at, SymbolRead, symbol, symbol_at}
 use Rattle.format.specs.Reader.{Reply, got, bad}

@@ -8,7 +8,7 @@ use native.Mathlib.Nat.{zero-add}
 use borrow.Author.Tests.{ltb-true, leb-true, eqb-true}
 use lib.Dec.{leb, eqb, ltb}
 use lib.ListN.{length, get_or}
-use Rattle.format.specs.Test.{if◌then◌else◌}
+use Rattle.std.specs.Prelude.{if◌then◌else◌}
 use Rattle.format.specs.Verdict.{passed}
 use Rattle.format.specs.Word.{AreBytes, byte_at, half_bytes, word_bytes}
 use Rattle.format.specs.Span.{Span}

@@ -1,6 +1,5 @@
 -- A lent buffer with its tables and stated tree count: one tree read and judged, and the reader that the check, the walk and the cursor are defined over.
-use Rattle.std.specs.Prelude.{ℕ, ◌+◌, Bool, true, not, ◌&&◌, List, [], length, get_or, leb, eqb}
-use Rattle.format.specs.Test.{if◌then◌else◌}
+use Rattle.std.specs.Prelude.{ℕ, ◌+◌, Bool, true, not, ◌&&◌, List, [], length, get_or, leb, eqb, if◌then◌else◌}
 use Rattle.format.specs.Verdict.{Verdict}
 use Rattle.format.specs.Reader.{Shape, Reader, Reply, got, bad}
 use Rattle.format.specs.Tree.{Raw, punct, is_subtree, count_of, tree_at}

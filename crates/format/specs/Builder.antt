@@ -1,6 +1,5 @@
 -- The builder: a list of trees made step by step in a lent run of words. Verdict, builder and run after a step are given for every builder and every run.
-use Rattle.std.specs.Prelude.{ℕ, ◌+◌, ◌*◌, ◌-◌, Bool, true, false, not, ◌&&◌, ◌||◌, List, [], ◌∷◌, ◌++◌, length, take, drop, get_or, set, ltb, leb, eqb}
-use Rattle.format.specs.Test.{if◌then◌else◌}
+use Rattle.std.specs.Prelude.{ℕ, ◌+◌, ◌*◌, ◌-◌, Bool, true, false, not, ◌&&◌, ◌||◌, List, [], ◌∷◌, ◌++◌, length, take, drop, get_or, set, ltb, leb, eqb, if◌then◌else◌}
 use Rattle.format.specs.Verdict.{Verdict, passed, refused, ◌and_then◌, contents, Report, refusal, rule, each_from}
 use Rattle.format.specs.Word.{put}
 use Rattle.format.specs.Plain.{end_of, sub}

@@ -1,7 +1,6 @@
 -- Tables, "Order: first appearance", and counts: the distinct keys of a run in order of first appearance, and how often a key stands.
 -- Keys are known by their numbers 0, 1, ..; `live v` says that number v is a key at all, `alike u v` that two of them are the same key.
-use Rattle.std.specs.Prelude.{ℕ, zero, suc, ◌+◌, Bool, false, ◌&&◌, ◌||◌, List, [], ◌∷◌, ◌++◌}
-use Rattle.format.specs.Test.{if◌then◌else◌}
+use Rattle.std.specs.Prelude.{ℕ, zero, suc, ◌+◌, Bool, false, ◌&&◌, ◌||◌, List, [], ◌∷◌, ◌++◌, if◌then◌else◌}
 
 -- some element of the list passes
 unfoldable pub any_in : (ℕ → Bool) → List ℕ → Bool

@@ -1,6 +1,5 @@
 -- Row 2 for one tree, read or given: "field out of range".
-use Rattle.std.specs.Prelude.{ℕ, ◌+◌, Bool, ◌&&◌, ◌||◌, leb, eqb}
-use Rattle.format.specs.Test.{if◌then◌else◌}
+use Rattle.std.specs.Prelude.{ℕ, ◌+◌, Bool, ◌&&◌, ◌||◌, leb, eqb, if◌then◌else◌}
 use Rattle.format.specs.Span.{Span}
 use Rattle.format.specs.Tree.{Raw, punct, ident, literal, subtree, is_raw_kind}
 

@@ -1,6 +1,5 @@
 -- `last_span` of the trees that a walk has left.
-use Rattle.std.specs.Prelude.{ℕ, zero, suc, ◌+◌, Bool, ◌&&◌, List, take, drop, ltb}
-use Rattle.format.specs.Test.{if◌then◌else◌}
+use Rattle.std.specs.Prelude.{ℕ, zero, suc, ◌+◌, Bool, ◌&&◌, List, take, drop, ltb, if◌then◌else◌}
 use Rattle.format.specs.Reader.{Shape, Reader, Answer, done, none, one, two, refused}
 use Rattle.format.specs.Walk.{Walk, advance, skip, walk_step}
 use Rattle.format.specs.Loose.{Loose, loose_at, reported_shape, reported}

@@ -1,6 +1,5 @@
 -- "Report spans that are longer than needed" (document 02): what reading a span and a tree says beside them. The list does not carry it.
-use Rattle.std.specs.Prelude.{ℕ, zero, suc, ◌+◌, ◌-◌, ◌/◌, ◌%◌, Bool, false, List, length, ltb, eqb}
-use Rattle.format.specs.Test.{if◌then◌else◌}
+use Rattle.std.specs.Prelude.{ℕ, zero, suc, ◌+◌, ◌-◌, ◌/◌, ◌%◌, Bool, false, List, length, ltb, eqb, if◌then◌else◌}
 use Rattle.format.specs.Word.{byte_at}
 use Rattle.format.specs.Span.{Span, SpanRead, span, span_at}
 use Rattle.format.specs.Write.{span_bytes}

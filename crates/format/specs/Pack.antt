@@ -1,6 +1,5 @@
 -- Packing one span or one symbol at a place of a lent run: the reply and what the run holds, for every input.
-use Rattle.std.specs.Prelude.{ℕ, ◌+◌, Bool, List, length, ltb, leb}
-use Rattle.format.specs.Test.{if◌then◌else◌}
+use Rattle.std.specs.Prelude.{ℕ, ◌+◌, Bool, List, length, ltb, leb, if◌then◌else◌}
 use Rattle.format.specs.Verdict.{Verdict, ◌and_then◌, rule, contents, Report, report}
 use Rattle.format.specs.Word.{put}
 use Rattle.format.specs.Span.{Span}

@@ -1,6 +1,5 @@
 -- The tables: row 1 on their sizes, row 8 on a tree's indices, a tree's list words by their entries, and the table mode that reader and writer share.
-use Rattle.std.specs.Prelude.{ℕ, ◌+◌, ◌*◌, ◌-◌, ◌/◌, ◌%◌, Bool, false, ◌&&◌, List, ◌∷◌, ◌++◌, length, get_or, drop, ltb, leb, eqb}
-use Rattle.format.specs.Test.{if◌then◌else◌}
+use Rattle.std.specs.Prelude.{ℕ, ◌+◌, ◌*◌, ◌-◌, ◌/◌, ◌%◌, Bool, false, ◌&&◌, List, ◌∷◌, ◌++◌, length, get_or, drop, ltb, leb, eqb, if◌then◌else◌}
 use Rattle.format.specs.Width.{part_size}
 use Rattle.format.specs.Span.{Span}
 use Rattle.format.specs.Part.{Part, part_at, span_list, no_span}

@@ -1,6 +1,5 @@
 -- The writer over given tables: a tree's indices, rows 5 and 6, the bytes, and what the work words and the output hold for every input.
-use Rattle.std.specs.Prelude.{ℕ, zero, suc, ◌+◌, Bool, ◌&&◌, List, [], ◌∷◌, length, get_or, leb, eqb}
-use Rattle.format.specs.Test.{if◌then◌else◌}
+use Rattle.std.specs.Prelude.{ℕ, zero, suc, ◌+◌, Bool, ◌&&◌, List, [], ◌∷◌, length, get_or, leb, eqb, if◌then◌else◌}
 use Rattle.format.specs.Verdict.{Verdict, ◌and_then◌, rule, each, contents, Report, report}
 use Rattle.format.specs.Word.{put}
 use Rattle.format.specs.Width.{open_at, close_at}

@@ -6,7 +6,7 @@ use mathlib.Core.List.{List, [], ◌∷◌, ◌++◌}
 use native.Mathlib.Omega.{arith}
 use lib.ListN.{length, get_or, set, replicate, length-replicate, get_or-eq_default}
 use lib.Seq.{set_out, sets}
-use Rattle.format.specs.Test.{if◌then◌else◌}
+use Rattle.std.specs.Prelude.{if◌then◌else◌}
 pub use Rattle.format.proofs.Kept.{kept}
 
 pub differ : {A : Type 0} → true ≡ false → A

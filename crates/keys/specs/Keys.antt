@@ -1,6 +1,5 @@
 -- Keys as the code meets them: where they are looked for, which class they are in, how many words they have in a run.
-use Rattle.std.specs.Prelude.{ℕ, ◌*◌, Bool, true, false, ◌&&◌, List, get_or, leb, eqb}
-use Rattle.format.specs.Test.{if◌then◌else◌}
+use Rattle.std.specs.Prelude.{ℕ, ◌*◌, Bool, true, false, ◌&&◌, List, get_or, leb, eqb, if◌then◌else◌}
 use Rattle.format.specs.Width.{part_size}
 use Rattle.format.specs.Part.{Part, part_from}
 use Rattle.format.specs.MakeTables.{live_at, key_word, key_part}

@@ -7,7 +7,7 @@ use native.Mathlib.Omega.{arith}
 use borrow.Author.Tests.{eqb-true}
 use lib.Dec.{leb, ltb, eqb}
 use lib.ListN.{length}
-use Rattle.format.specs.Test.{if◌then◌else◌}
+use Rattle.std.specs.Prelude.{if◌then◌else◌}
 use Rattle.format.specs.Word.{byte_at, word_at}
 use Rattle.format.specs.Span.{Span, SpanRead, span, span_at, span₁, span₂, span₃, SymbolRead, symbol, symbol_at}
 use Rattle.format.specs.Reader.{Reply, got, bad}

@@ -1,6 +1,5 @@
 -- The lister's stack of the ends of open subtrees, as a list whose first is the innermost's.
-use Rattle.std.specs.Prelude.{ℕ, ◌+◌, ◌≤◌, ◌<◌, true, ◌≡◌, List, ◌∷◌, length}
-use Rattle.format.specs.Test.{if◌then◌else◌}
+use Rattle.std.specs.Prelude.{ℕ, ◌+◌, ◌≤◌, ◌<◌, true, ◌≡◌, List, ◌∷◌, length, if◌then◌else◌}
 use Rattle.format.specs.Nest.{still_open}
 use Rattle.format.proofs.OpenEnds.{open_ends}
 use Rattle.format.specs.Tree.{Raw, is_subtree, count_of}

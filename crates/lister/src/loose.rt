@@ -1,7 +1,6 @@
 // How many of the spans below the root are longer than needed. A pass of its own: the header says it before the first
 // line.
-ghost use Rattle.std.specs.Prelude.{◌≡◌, ◌≤◌, eqb, length};
-ghost use Rattle.format.specs.Test.{if◌then◌else◌};
+ghost use Rattle.std.specs.Prelude.{◌≡◌, ◌≤◌, eqb, length, if◌then◌else◌};
 ghost use Rattle.format.specs.Verdict.{passed};
 ghost use Rattle.format.specs.Check.{check as checked};
 ghost use Rattle.format.specs.Buffer.{raw_shape, size_reader};

@@ -6,7 +6,7 @@ use mathlib.Core.List.{List}
 use native.Mathlib.Omega.{arith}
 use lib.Dec.{leb, ltb, eqb}
 use lib.ListN.{length}
-use Rattle.format.specs.Test.{if◌then◌else◌}
+use Rattle.std.specs.Prelude.{if◌then◌else◌}
 use Rattle.format.specs.Verdict.{Verdict, passed, refused, report}
 use Rattle.format.specs.Verdict as verdict
 use Rattle.format.specs.Word.{byte_at, half_at, word_at, put}

@@ -10,7 +10,7 @@ use lib.Dec.{eqb}
 use lib.ListN.{length, get_or, set, length-set}
 use lib.Seq.{get_or-set_same, get_or-set_other}
 use Rattle.format.specs.Part.{Part}
-use Rattle.format.specs.Test.{if◌then◌else◌}
+use Rattle.std.specs.Prelude.{if◌then◌else◌}
 use Rattle.format.specs.Writer.{find}
 use Rattle.places.specs.Key.{key_at, is_key, shift}
 use Rattle.places.specs.Index.{Leads, Finds, Filled}

@@ -1,6 +1,5 @@
 -- What the indices of a run of trees are, and what slots hold between two calls.
-use Rattle.std.specs.Prelude.{ℕ, ◌+◌, ◌*◌, ◌<◌, ◌≤◌, Bool, true, ◌≡◌, List, [], length, get_or, ltb}
-use Rattle.format.specs.Test.{if◌then◌else◌}
+use Rattle.std.specs.Prelude.{ℕ, ◌+◌, ◌*◌, ◌<◌, ◌≤◌, Bool, true, ◌≡◌, List, [], length, get_or, ltb, if◌then◌else◌}
 use Rattle.format.specs.Width.{part_size}
 use Rattle.format.specs.Tables.{Mode}
 use Rattle.format.specs.WordList.{word_of, raw_from, list_count}

@@ -1,6 +1,5 @@
 // A table too large for its slots: the keys of the trees are indexed instead, and the table is read through once.
-ghost use Rattle.std.specs.Prelude.{◌≡◌, ◌+◌, ◌-◌, ◌<◌, ◌≤◌, eqb, length, get_or, set};
-ghost use Rattle.format.specs.Test.{if◌then◌else◌};
+ghost use Rattle.std.specs.Prelude.{◌≡◌, ◌+◌, ◌-◌, ◌<◌, ◌≤◌, eqb, length, get_or, set, if◌then◌else◌};
 ghost use Rattle.places.specs.Key.{key_count};
 ghost use Rattle.places.specs.Index.{Loaded};
 ghost use Rattle.places.specs.Places.{Placed, Midway};

@@ -1,6 +1,5 @@
 -- A list's own tables in work words, and its tables and bytes in the outputs.
-use Rattle.std.specs.Prelude.{ℕ, ◌*◌, ◌≤◌, Bool, true, false, ◌≡◌, List, length, take, drop, leb, eqb}
-use Rattle.format.specs.Test.{if◌then◌else◌}
+use Rattle.std.specs.Prelude.{ℕ, ◌*◌, ◌≤◌, Bool, true, false, ◌≡◌, List, length, take, drop, leb, eqb, if◌then◌else◌}
 use Rattle.format.specs.Verdict.{Verdict, contents, rule}
 use Rattle.format.specs.Word.{put}
 use Rattle.format.specs.Width.{part_size}

@@ -1,6 +1,5 @@
 -- Answer and contents of the preview of `set_token`, for every input, and how the sizes are found.
-use Rattle.std.specs.Prelude.{ℕ, ◌/◌, ◌≡◌, List, length, drop, leb}
-use Rattle.format.specs.Test.{if◌then◌else◌}
+use Rattle.std.specs.Prelude.{ℕ, ◌/◌, ◌≡◌, List, length, drop, leb, if◌then◌else◌}
 use Rattle.format.specs.Width.{part_size}
 use Rattle.format.specs.WordList.{list_count}
 use Rattle.format.specs.Writer.{packed}

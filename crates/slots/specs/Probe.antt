@@ -1,6 +1,5 @@
 -- Slots: one holds 0, or one more than a key's number; a key is looked for from its slot on, round the end.
-use Rattle.std.specs.Prelude.{ℕ, zero, suc, ◌+◌, Bool, List, [], ◌∷◌, get_or, ltb}
-use Rattle.format.specs.Test.{if◌then◌else◌}
+use Rattle.std.specs.Prelude.{ℕ, zero, suc, ◌+◌, Bool, List, [], ◌∷◌, get_or, ltb, if◌then◌else◌}
 use Rattle.slots.specs.declared.probe.Looked.{Looked}
 use Rattle.slots.specs.declared.probe.Looked.TheVariants.{Found, Empty, Full}
 

@@ -5,7 +5,7 @@ use native.Mathlib.Omega.{arith}
 use borrow.Author.Tests.{le-leb, lt-leb, not-true, not-false}
 use mathlib.Core.Bool.{Bool, true, false, not, ◌&&◌}
 use lib.Dec.{leb, eqb}
-use Rattle.format.specs.Test.{if◌then◌else◌}
+use Rattle.std.specs.Prelude.{if◌then◌else◌}
 use Rattle.format.specs.Tree.{is_raw_kind}
 use Rattle.tree.specs.Types.{spacing_of, is_raw_of, delimiter_of, lit_kind_of, spacing_answer, is_raw_answer, delimiter_answer, lit_kind_answer, spacing_word, is_raw_word, delimiter_word, lit_kind_word}
 use Rattle.tree.specs.declared.types.Spacing.{Spacing}

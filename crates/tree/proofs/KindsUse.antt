@@ -5,7 +5,7 @@ use native.Mathlib.Omega.{arith}
 use borrow.Author.Tests.{le-leb}
 use mathlib.Core.Bool.{true}
 use lib.Dec.{leb, eqb}
-use Rattle.format.specs.Test.{if◌then◌else◌}
+use Rattle.std.specs.Prelude.{if◌then◌else◌}
 use Rattle.format.specs.Tree.{is_raw_kind}
 use Rattle.tree.specs.Types.{spacing_of, is_raw_of, delimiter_of, lit_kind_of, spacing_answer, is_raw_answer, delimiter_answer, lit_kind_answer}
 use Rattle.tree.specs.declared.types.Spacing.{Spacing}

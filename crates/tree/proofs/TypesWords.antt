@@ -5,7 +5,7 @@ use mathlib.Core.Path.{◌≡◌, refl}
 use native.Mathlib.Omega.{arith}
 use borrow.Author.Tests.{leb-true, eqb-true}
 use lib.Dec.{leb, eqb}
-use Rattle.format.specs.Test.{if◌then◌else◌}
+use Rattle.std.specs.Prelude.{if◌then◌else◌}
 use Rattle.format.specs.Tree.{Raw, punct, ident, literal, subtree, is_raw_kind}
 use Rattle.format.specs.Fields.{span_fits, is_scalar, fields}
 use Rattle.format.specs.Tables.{Mode, tree_words}

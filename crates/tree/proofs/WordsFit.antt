@@ -5,7 +5,7 @@ use mathlib.Core.Path.{◌≡◌}
 use native.Mathlib.Omega.{arith}
 use borrow.Author.Tests.{leb-true}
 use lib.Dec.{leb, eqb}
-use Rattle.format.specs.Test.{if◌then◌else◌}
+use Rattle.std.specs.Prelude.{if◌then◌else◌}
 use Rattle.format.specs.Width.{open_at, close_at}
 use Rattle.format.specs.Part.{span_from, indexed}
 use Rattle.format.specs.Fields.{span_fits, is_scalar, fields}

@@ -6,7 +6,7 @@ use native.Mathlib.Omega.{arith}
 use mathlib.Core.List.{List, ◌∷◌, ◌++◌}
 use borrow.Author.Tests.{leb-true, eq-eqb, ne_eqb, not-true, not-false}
 use lib.Dec.{leb, eqb}
-use Rattle.format.specs.Test.{if◌then◌else◌}
+use Rattle.std.specs.Prelude.{if◌then◌else◌}
 use Rattle.format.specs.Width.{part_size, open_at, close_at}
 use Rattle.format.specs.Part.{span_from}
 use Rattle.format.specs.Tree.{is_raw_kind}

@@ -1,6 +1,5 @@
 -- Limits that a tree of each sort may keep to, so that row 2 is silent on it.
-use Rattle.std.specs.Prelude.{ℕ, ◌+◌, ◌*◌, ◌≤◌, eqb}
-use Rattle.format.specs.Test.{if◌then◌else◌}
+use Rattle.std.specs.Prelude.{ℕ, ◌+◌, ◌*◌, ◌≤◌, eqb, if◌then◌else◌}
 use Rattle.format.specs.Width.{span_size, close_at}
 use Rattle.format.specs.Part.{WordSpan, span_from}
 

@@ -1,6 +1,5 @@
 -- The source's kinds of numbers; its tree of a tree with indices, by the entries of the tables; and the list words of such a tree.
-use Rattle.std.specs.Prelude.{ℕ, ◌+◌, ◌*◌, ◌%◌, List, ◌∷◌, ◌++◌, get_or, ◌&&◌, leb, eqb}
-use Rattle.format.specs.Test.{if◌then◌else◌}
+use Rattle.std.specs.Prelude.{ℕ, ◌+◌, ◌*◌, ◌%◌, List, ◌∷◌, ◌++◌, get_or, ◌&&◌, leb, eqb, if◌then◌else◌}
 use Rattle.format.specs.Tree.{is_raw_kind, Raw, punct, ident, literal, subtree}
 use Rattle.format.specs.Span as format
 use Rattle.format.specs.Part as words

@@ -1,6 +1,5 @@
 -- One tree of a list by its own words: its entries are the words themselves, so no tables are asked for.
-use Rattle.std.specs.Prelude.{ℕ, ◌/◌, ◌%◌, Bool, ◌&&◌, leb, eqb}
-use Rattle.format.specs.Test.{if◌then◌else◌}
+use Rattle.std.specs.Prelude.{ℕ, ◌/◌, ◌%◌, Bool, ◌&&◌, leb, eqb, if◌then◌else◌}
 use Rattle.format.specs.Fields.{is_scalar}
 use Rattle.format.specs.Width.{open_at, close_at}
 use Rattle.format.specs.Part.{span_from}

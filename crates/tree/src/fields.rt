@@ -1,6 +1,5 @@
 // Row 2 for one tree with indices: whether its fields are in range.
-ghost use Rattle.std.specs.Prelude.{◌≡◌, leb, eqb};
-ghost use Rattle.format.specs.Test.{if◌then◌else◌};
+ghost use Rattle.std.specs.Prelude.{◌≡◌, leb, eqb, if◌then◌else◌};
 ghost use Rattle.format.specs.Fields.{span_fits, is_scalar, fields};
 ghost use Rattle.format.specs.Tree.{is_raw_kind};
 ghost use Rattle.pack.specs.Answer.{span_of};

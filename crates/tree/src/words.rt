@@ -1,6 +1,5 @@
 // One tree by its list words, where row 2 is silent on them, and its words again.
-ghost use Rattle.std.specs.Prelude.{◌≡◌, ◌∷◌, ◌++◌, true, ◌+◌, ◌*◌, ◌/◌, ◌%◌, ◌<◌, ◌≤◌, leb, eqb};
-ghost use Rattle.format.specs.Test.{if◌then◌else◌};
+ghost use Rattle.std.specs.Prelude.{◌≡◌, ◌∷◌, ◌++◌, true, ◌+◌, ◌*◌, ◌/◌, ◌%◌, ◌<◌, ◌≤◌, leb, eqb, if◌then◌else◌};
 ghost use Rattle.format.specs.Width.{span_size, tree_size};
 ghost use Rattle.format.specs.Part.{span_from};
 ghost use Rattle.format.specs.Tree.{is_raw_kind};

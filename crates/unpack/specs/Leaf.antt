@@ -1,6 +1,5 @@
 -- What the functions that look for a tree promise, where only the reach of indices is known. `is_leaf_lem` does without: its contract is `is_leaf`.
-use Rattle.std.specs.Prelude.{ℕ, ◌+◌, Bool, true, not, List, leb}
-use Rattle.format.specs.Test.{if◌then◌else◌}
+use Rattle.std.specs.Prelude.{ℕ, ◌+◌, Bool, true, not, List, leb, if◌then◌else◌}
 use Rattle.format.specs.Reader.{Reader, Reply, got, bad}
 use Rattle.format.specs.Tree.{Raw, is_subtree, count_of}
 use Rattle.format.specs.Buffer.{raw_reader}

@@ -6,7 +6,7 @@ use mathlib.Core.List.{List}
 use native.Mathlib.Omega.{arith}
 use borrow.Author.Tests.{lt-ltb, not-true}
 use lib.Dec.{ltb}
-use Rattle.format.specs.Test.{if◌then◌else◌}
+use Rattle.std.specs.Prelude.{if◌then◌else◌}
 use lib.ListN.{length}
 use Rattle.format.specs.Reader.{Shape, Reader, Answer, none, one, refused, mapped}
 use Rattle.format.specs.Loose.{Loose, reported_shape}

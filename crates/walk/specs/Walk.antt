@@ -1,6 +1,5 @@
 -- The answers of walk steps in document 01's numbers and values, and what a step promises.
-use Rattle.std.specs.Prelude.{ℕ, ◌+◌, ◌-◌, ◌<◌, ◌≤◌, Bool, true, false, ◌≡◌, List, leb, ltb, length}
-use Rattle.format.specs.Test.{if◌then◌else◌}
+use Rattle.std.specs.Prelude.{ℕ, ◌+◌, ◌-◌, ◌<◌, ◌≤◌, Bool, true, false, ◌≡◌, List, leb, ltb, length, if◌then◌else◌}
 use Rattle.format.specs.Reader as format
 use Rattle.format.specs.Walk as steps
 use Rattle.format.specs.Tables.{Mode}
