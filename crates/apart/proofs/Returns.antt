@@ -7,6 +7,7 @@ use native.Mathlib.Omega.{arith}
 use borrow.Author.Tests.{le-leb, lt-leb, leb-true, eq-eqb, ne_eqb, eqb-true, not-true, not-false}
 use lib.ListN.{length}
 use lib.Dec.{leb, eqb}
+use Rattle.std.specs.Prelude.{Result, ⊤}
 use Rattle.format.specs.Width.{part_size}
 use Rattle.format.specs.Verdict.{passed, refused}
 use Rattle.format.specs.Reader as format
@@ -22,7 +23,6 @@ use Rattle.format.proofs.Reading.{walk_rule}
 use Rattle.tree.specs.Mode.{limits_of, mode_of, Whole}
 use Rattle.tree.specs.Refusal.{verdict_answer}
 use Rattle.tree.specs.declared.limits.Limits.{Limits}
-use Rattle.tree.specs.declared.refusal.Verdict.{Verdict as Answer}
 use Rattle.decode.specs.Judge.{limit_rules}
 use Rattle.checker.specs.Descent.{after_sizes}
 use Rattle.checker.specs.Glance.{reader_of}
@@ -32,45 +32,7 @@ use Rattle.walk.specs.Walk.{step_of, walk_of}
 use Rattle.walk.specs.declared.walk.Walk.{Walk}
 use Rattle.walk.specs.declared.walk.Step.{Step}
 use Rattle.apart.specs.Apart.{sized_apart, sizes_apart, apart_mode}
-
--- ---- row 1
-
-module _ (count : ℕ) (parts pair symbols : List ℕ) where
-  pub many_parts : 2097152 < count → false ≡ sized_apart count parts pair symbols
-  unfolding sized_apart
-  many_parts h = simp (lt-leb _ _ h)
-
-  module _ (h₁ : count ≤ 2097152) where
-    pub short_run : length parts < part_size * count → false ≡ sized_apart count parts pair symbols
-    unfolding sized_apart
-    short_run h = simp (le-leb _ _ h₁, lt-leb _ _ h)
-
-    module _ (h₂ : part_size * count ≤ length parts) where
-      pub no_pair : (length pair ≡ 2 * part_size → ⊥) → false ≡ sized_apart count parts pair symbols
-      unfolding sized_apart
-      no_pair h = simp (le-leb _ _ h₁, le-leb _ _ h₂, ne_eqb _ _ h)
-
-      module _ (h₃ : length pair ≡ 2 * part_size) where
-        pub many_symbols : 1048576 < length symbols → false ≡ sized_apart count parts pair symbols
-        unfolding sized_apart
-        many_symbols h = simp (le-leb _ _ h₁, le-leb _ _ h₂, eq-eqb _ _ h₃, lt-leb _ _ h)
-
-        pub all_sized : length symbols ≤ 1048576 → true ≡ sized_apart count parts pair symbols
-        unfolding sized_apart
-        all_sized h = simp (le-leb _ _ h₁, le-leb _ _ h₂, eq-eqb _ _ h₃, le-leb _ _ h)
-
-pub ruleset sized_cases = (many_parts, short_run, no_pair, many_symbols, all_sized)
-
-module _ (k count : ℕ) (parts pair symbols : List ℕ) (t : Bool) (e : t ≡ trees_sized k) where
-  pub no_trees : not t ≡ true → false ≡ sizes_apart k count parts pair symbols
-  unfolding sizes_apart
-  no_trees h = let q : trees_sized k ≡ false = sym e ∙ not-true t h in rw q
-
-  pub both_sized : not t ≡ false → (r : Bool) → r ≡ sized_apart count parts pair symbols → r ≡ sizes_apart k count parts pair symbols
-  unfolding sizes_apart
-  both_sized h r f = let q : trees_sized k ≡ true = sym e ∙ not-false t h in f ∙ rw q
-
-pub ruleset both_cases = (no_trees, both_sized)
+use Rattle.tree.specs.declared.refusal.Refusal.{Refusal}
 
 -- ---- behind it the runs have what the core asks for, and it is this mode that the core reads
 
@@ -101,7 +63,7 @@ module _ (k count : ℕ) (parts pair symbols : List ℕ) (s : Bool) (e : s ≡ s
       apart_mode_lem : mode_of N parts pair symbols ≡ apart_mode count root parts pair symbols
       apart_mode_lem = λ i. record { sized = sym tables_silent i; limit = (d i).limit; root = (d i).root; parts = parts; pair = pair; symbols = symbols }
 
-      pub check_on : (b : List ℕ) (z : Answer) → z ≡ verdict_answer (after_sizes raw_shape (reader_of b (record { trees = k; limits = N })))
+      pub check_on : (b : List ℕ) (z : Result ⊤ Refusal) → z ≡ verdict_answer (after_sizes raw_shape (reader_of b (record { trees = k; limits = N })))
           → z ≡ verdict_answer (check word_shape (reader b k (mode_tables (apart_mode count root parts pair symbols))))
       check_on b z q =
           let M = apart_mode count root parts pair symbols in
@@ -121,7 +83,7 @@ module _ (k count : ℕ) (parts pair symbols : List ℕ) (s : Bool) (e : s ≡ s
     unfolding sizes_apart
     speaks = sym e ∙ not-true s h
 
-    pub check_1 : (z : Answer) → z ≡ verdict_answer (refused 1 0) → z ≡ verdict_answer (check word_shape (reader b k (mode_tables (apart_mode count root parts pair symbols))))
+    pub check_1 : (z : Result ⊤ Refusal) → z ≡ verdict_answer (refused 1 0) → z ≡ verdict_answer (check word_shape (reader b k (mode_tables (apart_mode count root parts pair symbols))))
     check_1 z q = q ∙ ap verdict_answer (check_unsized word_shape (reader b k (mode_tables (apart_mode count root parts pair symbols))) speaks)
 
     pub walk_1 : (w : Walk) (call : WalkCall) (r : Step) → step_of r ≡ (format.refused 1 0, walk_of w)

@@ -16,9 +16,12 @@ ghost use Rattle.apart.specs.Apart.{apart_mode, sized_apart, sizes_apart};
 
 use checker::check::{check_in, refused};
 use checker::glance::Sizes;
+use pack::row;
 use tree::limits::Limits;
-use tree::refusal::Verdict;
+use tree::refusal::Refusal;
 use tree::sizes::trees_sized;
+use tree::tables::Tables;
+use walk::buffer::Buffer;
 use walk::walk::{Step, Walk, refuse, walk_in};
 use width::PART_WORDS;
 
@@ -30,32 +33,22 @@ const MOST_SYMBOLS: usize = 1048576;
 const PAIR_WORDS: usize = 2 * PART_WORDS;
 
 // Whether row 1 is silent on the tables.
+#[tactic(auto, unfolding(crate::specs::Apart::sized_apart))]
 fn tables_apart(count: usize, parts: &[u32], pair: &[u32], symbols: &[u32]) -> bool
     ensures { result ≡ sized_apart count parts.now pair.now symbols.now }
 {
-    if MOST_PARTS < count {
-        return false;
-    }
-    if parts.len() < PART_WORDS * count {
-        return false;
-    }
-    if pair.len() != PAIR_WORDS {
-        return false;
-    }
-    if MOST_SYMBOLS < symbols.len() {
-        return false;
-    }
-    true
+    count <= MOST_PARTS
+        && PART_WORDS * count <= parts.len()
+        && pair.len() == PAIR_WORDS
+        && symbols.len() <= MOST_SYMBOLS
 }
 
 // Whether row 1 is silent.
+#[tactic(auto, unfolding(crate::specs::Apart::sizes_apart))]
 fn sized(trees: u32, count: usize, parts: &[u32], pair: &[u32], symbols: &[u32]) -> bool
     ensures { result ≡ sizes_apart trees count parts.now pair.now symbols.now }
 {
-    if !trees_sized(trees) {
-        return false;
-    }
-    tables_apart(count, parts, pair, symbols)
+    trees_sized(trees) && tables_apart(count, parts, pair, symbols)
 }
 
 fn stated(count: usize, root: usize, symbols: usize) -> Limits
@@ -63,11 +56,12 @@ fn stated(count: usize, root: usize, symbols: usize) -> Limits
 {
     Limits {
         limit: count,
-        root: root,
-        symbols: symbols,
+        root,
+        symbols,
     }
 }
 
+#[tactic(auto, using(crate::proofs::Returns::check_cases))]
 pub fn check_apart(
     b: &[u8],
     trees: u32,
@@ -76,29 +70,29 @@ pub fn check_apart(
     parts: &[u32],
     pair: &[u32],
     symbols: &[u32],
-) -> Verdict
+) -> Result<(), Refusal>
     ensures { result ≡ verdict_answer (check word_shape (reader b.now trees
         (mode_tables (apart_mode count root parts.now pair.now symbols.now)))) }
 {
     if !sized(trees, count, parts, pair, symbols) {
-        return refused(1, 0);
+        return refused(row::SIZE, 0);
     }
-    let limits = stated(count, root, symbols.len());
     let sizes = Sizes {
-        trees: trees,
-        limits: limits,
+        trees,
+        limits: stated(count, root, symbols.len()),
     };
     check_in(b, sizes)
 }
 
-pub fn walk_apart(
-    b: &[u8],
+#[tactic(auto, using(crate::proofs::Returns::walk_cases))]
+pub fn walk_apart<'a>(
+    b: &'a [u8],
     trees: u32,
     count: usize,
     root: usize,
-    parts: &[u32],
-    pair: &[u32],
-    symbols: &[u32],
+    parts: &'a [u32],
+    pair: &'a [u32],
+    symbols: &'a [u32],
     walk: Walk,
     skip: bool,
 ) -> Step
@@ -107,8 +101,18 @@ pub fn walk_apart(
         (call_of skip) (walk_of walk) }
 {
     if !sized(trees, count, parts, pair, symbols) {
-        return refuse(1, 0, walk);
+        return refuse(row::SIZE, 0, walk);
     }
-    let limits = stated(count, root, symbols.len());
-    walk_in(b, trees, limits, parts, pair, symbols, walk, skip)
+    let tables = Tables {
+        limits: stated(count, root, symbols.len()),
+        parts,
+        pair,
+        symbols,
+    };
+    let buffer = Buffer {
+        bytes: b,
+        trees,
+        tables,
+    };
+    walk_in(&buffer, walk, skip)
 }

@@ -1,13 +1,14 @@
 -- One law for each return of the functions of src/build.rt, with premises as the code's tests and calls give them.
-use Prim.Native.Nat.{ℕ, ◌+◌, ◌*◌, ◌-◌, ◌≤◌, ◌<◌}
+use Prim.Native.Nat.{ℕ, ◌+◌, ◌*◌, ◌-◌, ◌≤◌}
 use mathlib.Core.Bool.{Bool, true, false, not}
 use mathlib.Core.Path.{◌≡◌, sym, ap, ◌∙◌, subst}
 use mathlib.Core.List.{List, [], ◌++◌}
 use native.Mathlib.Omega.{arith}
-use borrow.Author.Tests.{le-leb, lt-leb, eq-eqb, ne_eqb, not-true, not-false}
+use borrow.Author.Tests.{not-true}
 use lib.Dec.{eqb}
-use lib.ListN.{length, get_or, take, drop}
+use lib.ListN.{length, take, drop}
 use lib.Seq.{length-take-le, take-add, drop_at}
+use Rattle.std.specs.Prelude.{Result, Ok, Err, ⊤}
 use Rattle.format.specs.Verdict.{passed, refused}
 use Rattle.format.specs.Width.{tree_size}
 use Rattle.format.specs.WordList.{list_count}
@@ -18,80 +19,27 @@ use Rattle.builder.proofs.BuilderRestore.{Agrees, agrees_is}
 use Rattle.tree.specs.Refusal.{verdict_answer, report_answer}
 use Rattle.tree.proofs.Answers.{answer_passed, answer_refused}
 use Rattle.tree.specs.declared.refusal.Refusal.{Refusal}
-use Rattle.tree.specs.declared.refusal.Verdict.{Verdict as Answer}
-use Rattle.tree.specs.declared.refusal.Verdict.TheVariants.{Passed, Refused}
-use Rattle.tree.specs.declared.refusal.Report.{Report}
-use Rattle.tree.specs.declared.refusal.Report.TheVariants as reports
 use Rattle.writer.specs.Written.{Written}
 use Rattle.builder.specs.declared.state.Builder.{Builder}
 use Rattle.builder.specs.State.{numbers, state_of, seen}
 use Rattle.builder.specs.Building.{Made, Built, BuiltSkipping}
-use Rattle.builder.proofs.Numbers.{numbers_length}
-use Rattle.builder.proofs.StepReturns.{same, passed_is}
-
--- ---- ready_verdict
-
-module _ (l a : List ℕ) (n d : ℕ) (x : Bool) (e : x ≡ disagrees l (state_of n d a)) where
-  pub ready_10 : x ≡ true → (z : Answer) → z ≡ verdict_answer (refused 10 0) → z ≡ verdict_answer (ready l (state_of n d a))
-  ready_10 h z f = let q : disagrees l (state_of n d a) ≡ true = sym e ∙ h in same z _ _ f (simp q)
-
-  module _ (h : x ≡ false) where
-    agreeing : disagrees l (state_of n d a) ≡ false
-    agreeing = sym e ∙ h
-
-    pub ready_open : (d ≡ 0 → ⊥) → (z : Answer) → z ≡ verdict_answer (refused 10 0) → z ≡ verdict_answer (ready l (state_of n d a))
-    ready_open k z f =
-        let q = ne_eqb (length (numbers a d)) 0 (λ i. k (sym (numbers_length a d) ∙ i)) in
-        same z _ _ f (simp (agreeing, q))
-
-    pub ready_ok : d ≡ 0 → Passed ≡ verdict_answer (ready l (state_of n d a))
-    ready_ok k =
-        let q = eq-eqb (length (numbers a d)) 0 (numbers_length a d ∙ k) in
-        passed_is _ (simp (agreeing, q))
-
-pub ruleset ready_cases = (ready_10, ready_open, ready_ok)
-
--- ---- one_inside
-
-module _ (l : List ℕ) (n : ℕ) where
-  pub inside_few : n < 2 → false ≡ one_inside l (state_of n 0 [])
-  inside_few h = simp (lt-leb _ _ h)
-
-  module _ (h : 2 ≤ n) (x : Bool) (e : x ≡ sub_at l 1) where
-    pub inside_leaf : not x ≡ true → false ≡ one_inside l (state_of n 0 [])
-    inside_leaf k = let q : sub_at l 1 ≡ false = sym e ∙ not-true x k in simp (le-leb _ _ h, q)
-
-    module _ (k : not x ≡ false) where
-      pub inside_other : (get_or l (tree_size + 1) 0 ≡ n - 2 → ⊥) → false ≡ one_inside l (state_of n 0 [])
-      inside_other i =
-          let q : sub_at l 1 ≡ true = sym e ∙ not-false x k in
-          let j = ne_eqb (get_or l (tree_size + 1) 0) (n - 2) i in
-          simp (le-leb _ _ h, q, j)
-
-      pub inside_one : get_or l (tree_size + 1) 0 ≡ n - 2 → true ≡ one_inside l (state_of n 0 [])
-      inside_one i =
-          let q : sub_at l 1 ≡ true = sym e ∙ not-false x k in
-          let j = eq-eqb (get_or l (tree_size + 1) 0) (n - 2) i in
-          simp (le-leb _ _ h, q, j)
-
-pub ruleset inside_cases = (inside_few, inside_leaf, inside_other, inside_one)
 
 -- ---- build, build_skip_top_subtree: from the answer of `ready_verdict` and the writer's report
 
-module _ (b : Builder) (l parts symbols work out : List ℕ) (v : Answer) (e : v ≡ verdict_answer (ready l (seen b))) where
-  module _ (x : Refusal) (h : v ≡ Refused x) where
+module _ (b : Builder) (l parts symbols work out : List ℕ) (v : Result ⊤ Refusal) (e : v ≡ verdict_answer (ready l (seen b))) where
+  module _ (x : Refusal) (h : v ≡ Err x) where
     no : ready l (seen b) ≡ refused x.number x.tree
     no = answer_refused (ready l (seen b)) x (sym e ∙ h)
 
-    pub build_refused : Built b l parts symbols work out (reports.Refused x) work out
+    pub build_refused : Built b l parts symbols work out (Err x) work out
     unfolding report_answer
     build_refused = let n = no in record { answer = rw n; works = rw n; outs = rw n }
 
-    pub skip_refused : BuiltSkipping b l parts symbols work out (reports.Refused x) work out
+    pub skip_refused : BuiltSkipping b l parts symbols work out (Err x) work out
     unfolding report_answer
     skip_refused = let n = no in record { answer = rw n; works = rw n; outs = rw n }
 
-  module _ (h : v ≡ Passed) where
+  module _ (h : v ≡ Ok tt) where
     yes : ready l (seen b) ≡ passed
     yes = answer_passed (ready l (seen b)) (sym e ∙ h)
 
@@ -109,7 +57,7 @@ module _ (b : Builder) (l parts symbols work out : List ℕ) (v : Answer) (e : v
       pub ready_room : tree_size * m ≤ length l
       ready_room = let a = agree.in_run in omega arith
 
-      module _ (r : Report) (work' out' : List ℕ) where
+      module _ (r : Result ℕ Refusal) (work' out' : List ℕ) where
         -- what the writer makes of a list
         made : (q : List ℕ) (w : format.Built) → w ≡ written parts symbols work out q → Written parts symbols q work out r work' out' → Made w r work' out'
         made q w f h = rw f (record { answer = h.answer; works = h.works; outs = h.outs })
@@ -151,7 +99,7 @@ module _ (l : List ℕ) (end : ℕ) (h : tree_size ≤ end) (k : end ≤ length 
       let f : take end l ≡ take tree_size l ++ take (end - tree_size) (drop tree_size l) = rw e at (take-add tree_size (end - tree_size) l) in
       sym (ap (drop tree_size) f ∙ drop_at (take tree_size l) (take (end - tree_size) (drop tree_size l)) tree_size (length-take-le tree_size l (omega arith)))
 
-  pub inner_written : (p s work out : List ℕ) (r : Report) (work' out' : List ℕ) → Written p s (take (end - tree_size) (drop tree_size l)) work out r work' out'
+  pub inner_written : (p s work out : List ℕ) (r : Result ℕ Refusal) (work' out' : List ℕ) → Written p s (take (end - tree_size) (drop tree_size l)) work out r work' out'
       → Written p s (drop tree_size (take end l)) work out r work' out'
   inner_written p s work out r work' out' h = subst (λ (q : List ℕ). Written p s q work out r work' out') part_is h
 

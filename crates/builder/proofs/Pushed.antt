@@ -7,6 +7,7 @@ use native.Mathlib.Omega.{arith}
 use lib.Dec.{eqb}
 use lib.ListN.{length, get_or}
 use lib.Seq.{take_all}
+use Rattle.std.specs.Prelude.{Result, Ok, Err}
 use Rattle.format.specs.Width.{tree_size}
 use Rattle.format.specs.WordList.{word_of, raw_from, word_fields}
 use Rattle.format.specs.Builder.{word_in, leaf_fits, leaf_words}
@@ -19,28 +20,26 @@ use Rattle.tree.specs.declared.types.Leaf.{Leaf}
 use Rattle.tree.specs.declared.types.Leaf.TheVariants as leaves
 use Rattle.tree.specs.declared.types.TokenTree.{TokenTree}
 use Rattle.tree.specs.declared.types.TokenTree.TheVariants as trees
-use Rattle.tree.specs.declared.words.WordsRead.{WordsRead}
-use Rattle.tree.specs.declared.words.WordsRead.TheVariants.{Got, Bad}
 
 -- ---- what the tree says of the words
 
-apart : {A : Type 0} (t : TokenTree) (k : ℕ) → Bad k ≡ Got t → A
+apart : {A : Type 0} (t : TokenTree) (k : ℕ) → ◌≡◌ {A = Result TokenTree ℕ} (Err k) (Ok t) → A
 apart t k e = let z : ◌≡◌ {A = ℕ} 0 1 = cc in absurd (omega arith)
 
-got_fields : (w : ℕ → ℕ) (t : TokenTree) → words_answer w ≡ Got t → word_fields w ≡ true
+got_fields : (w : ℕ → ℕ) (t : TokenTree) → words_answer w ≡ Ok t → word_fields w ≡ true
 unfolding words_answer
 got_fields w t e = go (word_fields w) refl
   where
     go : (x : Bool) → word_fields w ≡ x → word_fields w ≡ true
     go true f = f
-    go false f = let d : Bad 2 ≡ Got t = simp f at e in apart t 2 d
+    go false f = let d : ◌≡◌ {A = Result TokenTree ℕ} (Err 2) (Ok t) = simp f at e in apart t 2 d
 
-bad_fields : (w : ℕ → ℕ) (k : ℕ) → words_answer w ≡ Bad k → word_fields w ≡ false
+bad_fields : (w : ℕ → ℕ) (k : ℕ) → words_answer w ≡ Err k → word_fields w ≡ false
 unfolding words_answer
 bad_fields w k e = go (word_fields w) refl
   where
     go : (x : Bool) → word_fields w ≡ x → word_fields w ≡ false
-    go true f = let d : Got (tree_from w) ≡ Bad k = simp f at e in apart (tree_from w) k (sym d)
+    go true f = let d : ◌≡◌ {A = Result TokenTree ℕ} (Ok (tree_from w)) (Err k) = simp f at e in apart (tree_from w) k (sym d)
     go false f = f
 
 leaf_sort : (x : Leaf) → eqb (get_or (tree_words_of (trees.Leaf x)) 0 0) 3 ≡ false
@@ -69,11 +68,11 @@ fields_here : (w : List ℕ) (x : Bool) → word_fields (word_of w 0) ≡ x → 
 unfolding raw_from
 fields_here w x e = e
 
-module _ (w : List ℕ) (r : WordsRead) (e : r ≡ words_answer (word_of w 0)) where
-  pub words_none : (k : ℕ) → r ≡ Bad k → false ≡ leaf_fits w
+module _ (w : List ℕ) (r : Result TokenTree ℕ) (e : r ≡ words_answer (word_of w 0)) where
+  pub words_none : (k : ℕ) → r ≡ Err k → false ≡ leaf_fits w
   words_none k q = no_words (eqb (get_or w 0 0) 3) (word_fields (word_in w)) (fields_here w false (bad_fields (word_of w 0) k (sym e ∙ q)))
 
-  module _ (t : TokenTree) (q : r ≡ Got t) where
+  module _ (t : TokenTree) (q : r ≡ Ok t) where
     first : get_or (tree_words_of t) 0 0 ≡ get_or w 0 0
     first = ap (λ (l : List ℕ). get_or l 0 0) (words_of_tree (word_of w 0) t (sym e ∙ q))
 

@@ -5,28 +5,27 @@ use mathlib.Core.Path.{◌≡◌, refl, sym, ap, ◌∙◌}
 use mathlib.Core.List.{List, ◌∷◌}
 use native.Mathlib.Omega.{arith}
 use borrow.Author.Tests.{le-leb, lt-leb, le-ltb, lt-ltb, eq-eqb, ne_eqb, not-true, not-false}
+use mir.Val.{bool_byte}
 use lib.Dec.{ltb, eqb}
 use lib.ListN.{length, get_or}
-use Rattle.std.specs.Prelude.{if◌then◌else◌}
+use Rattle.std.specs.Prelude.{if◌then◌else◌, Result, Ok, Err, ⊤}
 use Rattle.format.specs.Verdict.{Verdict, passed, refused, ◌and_then◌, rule, each_from}
 use Rattle.format.specs.Width.{tree_size}
 use Rattle.format.specs.WordList.{list_count}
 use Rattle.format.specs.Builder.{sub_at, disagrees, is_among, open_before, reaches_past, point_fits, point_verdict, restore_point, restore_verdict, restore}
 use Rattle.format.specs.Builder as format
+use Rattle.format.proofs.Each.{rule_passed}
 use Rattle.builder.proofs.BuilderRestore.{Agrees, agrees_is}
 use Rattle.tree.specs.Refusal.{verdict_answer}
-use Rattle.tree.proofs.Answers.{answer_passed, answer_refused}
+use Rattle.tree.proofs.Answers.{answer_passed}
 use Rattle.tree.specs.declared.refusal.Refusal.{Refusal}
-use Rattle.tree.specs.declared.refusal.Verdict.{Verdict as Answer}
-use Rattle.tree.specs.declared.refusal.Verdict.TheVariants.{Passed, Refused}
 use Rattle.builder.specs.declared.state.Builder.{Builder}
 use Rattle.builder.specs.declared.state.Point.{Point}
-use Rattle.builder.specs.declared.restore.PointTaken.TheVariants as taken
 use Rattle.builder.specs.State.{numbers, state_of, seen}
 use Rattle.builder.specs.Restoring.{point_of, point_answer, closed_from}
 use Rattle.builder.specs.Taken.{after, Taken}
-use Rattle.builder.proofs.Numbers.{numbers_length, numbers_down}
-use Rattle.builder.proofs.StepReturns.{same, passed_is}
+use Rattle.builder.proofs.Numbers.{numbers_length, numbers_last}
+use Rattle.builder.proofs.StepReturns.{first_refused, passed_is}
 use Rattle.builder.proofs.TakenReturns.{step_refused, step_passed}
 
 -- ---- is_among
@@ -36,54 +35,57 @@ unfolding is_among numbers
 among_nothing a i = refl
 
 module _ (a : List ℕ) (i depth d : ℕ) (inv : is_among i (numbers a depth) ≡ is_among i (numbers a d)) where
-  among_down : 0 < d → is_among i (numbers a d) ≡ (eqb i (get_or a (d - 1) 0) || is_among i (numbers a (d - 1)))
-  unfolding is_among
-  among_down h = let e = numbers_down a d h in rw e
+  module _ (j : ℕ) (h : j + 1 ≡ d) where
+    among_down : is_among i (numbers a depth) ≡ (eqb i (get_or a j 0) || is_among i (numbers a j))
+    unfolding is_among
+    among_down = inv ∙ ap (λ (x : ℕ). is_among i (numbers a x)) (sym h) ∙ (let e = numbers_last a j in rw e)
 
-  pub among_found : 0 < d → get_or a (d - 1) 0 ≡ i → true ≡ is_among i (numbers a depth)
-  among_found h e = sym (inv ∙ among_down h ∙ simp (eq-eqb i (get_or a (d - 1) 0) (sym e)))
+    pub among_found : get_or a j 0 ≡ i → true ≡ is_among i (numbers a depth)
+    among_found e = sym (among_down ∙ simp (eq-eqb i (get_or a j 0) (sym e)))
 
-  pub among_again : 0 < d → (get_or a (d - 1) 0 ≡ i → ⊥) → is_among i (numbers a depth) ≡ is_among i (numbers a (d - 1))
-  among_again h f = inv ∙ among_down h ∙ simp (ne_eqb i (get_or a (d - 1) 0) (λ e. f (sym e)))
+    pub among_again : (get_or a j 0 ≡ i → ⊥) → is_among i (numbers a depth) ≡ is_among i (numbers a j)
+    among_again f = among_down ∙ simp (ne_eqb i (get_or a j 0) (λ e. f (sym e)))
 
-  pub among_none : d ≤ 0 → false ≡ is_among i (numbers a depth)
-  among_none h = let z : d ≡ 0 = omega arith in sym (inv ∙ ap (λ (x : ℕ). is_among i (numbers a x)) z ∙ among_nothing a i)
+  pub among_none : d ≡ 0 → false ≡ is_among i (numbers a depth)
+  among_none z = sym (inv ∙ ap (λ (x : ℕ). is_among i (numbers a x)) z ∙ among_nothing a i)
 
 pub ruleset among_cases = (among_found, among_again, among_none)
 
 -- ---- open_before
 
-pub one_taken : (m n : ℕ) → m < n → ◌≡◌ {A = ℕ} 1 (if ltb m n then 1 else 0)
-one_taken m n h = simp (lt-ltb _ _ h)
+byte_is : (b : Bool) → bool_byte b ≡ (if b then 1 else 0)
+byte_is true = refl
+byte_is false = refl
 
-pub one_left : (m n : ℕ) → n ≤ m → ◌≡◌ {A = ℕ} 0 (if ltb m n then 1 else 0)
-one_left m n h = simp (le-ltb _ _ h)
+pub byte_most : (b : Bool) → bool_byte b ≤ 1
+byte_most true = omega arith
+byte_most false = omega arith
 
 before_nothing : (a : List ℕ) (n : ℕ) → length (open_before n (numbers a 0)) ≡ 0
 unfolding open_before numbers
 before_nothing a n = refl
 
 module _ (a : List ℕ) (n depth k d : ℕ) (inv : length (open_before n (numbers a depth)) ≡ k + length (open_before n (numbers a d))) where
-  before_down : 0 < d → length (open_before n (numbers a d)) ≡ (if ltb (get_or a (d - 1) 0) n then 1 else 0) + length (open_before n (numbers a (d - 1)))
-  unfolding open_before
-  before_down h = let e = numbers_down a d h in rw e (go (ltb (get_or a (d - 1) 0) n))
-    where
-      go : (x : Bool) → length (if x then get_or a (d - 1) 0 ∷ open_before n (numbers a (d - 1)) else open_before n (numbers a (d - 1)))
-          ≡ (if x then 1 else 0) + length (open_before n (numbers a (d - 1)))
-      go true = omega arith
-      go false = omega arith
+  module _ (j : ℕ) (h : j + 1 ≡ d) where
+    before_down : length (open_before n (numbers a d)) ≡ (if ltb (get_or a j 0) n then 1 else 0) + length (open_before n (numbers a j))
+    unfolding open_before
+    before_down = ap (λ (x : ℕ). length (open_before n (numbers a x))) (sym h) ∙ (let e = numbers_last a j in rw e (go (ltb (get_or a j 0) n)))
+      where
+        go : (x : Bool) → length (if x then get_or a j 0 ∷ open_before n (numbers a j) else open_before n (numbers a j))
+            ≡ (if x then 1 else 0) + length (open_before n (numbers a j))
+        go true = omega arith
+        go false = omega arith
 
-  pub before_again : 0 < d → (r : ℕ) → r ≡ (if ltb (get_or a (d - 1) 0) n then 1 else 0)
-      → length (open_before n (numbers a depth)) ≡ k + r + length (open_before n (numbers a (d - 1)))
-  before_again h r e = let z = before_down h in omega arith
+    pub before_again : (r : ℕ) → r ≡ bool_byte (ltb (get_or a j 0) n) → length (open_before n (numbers a depth)) ≡ k + r + length (open_before n (numbers a j))
+    before_again r e =
+        let z = before_down in
+        let y = byte_is (ltb (get_or a j 0) n) in
+        omega arith
 
-  pub before_done : d ≤ 0 → k ≡ length (open_before n (numbers a depth))
-  before_done h =
-      let z : d ≡ 0 = omega arith in
+  pub before_done : d ≡ 0 → k ≡ length (open_before n (numbers a depth))
+  before_done z =
       let y : length (open_before n (numbers a d)) ≡ 0 = ap (λ (x : ℕ). length (open_before n (numbers a x))) z ∙ before_nothing a n in
       omega arith
-
-pub ruleset before_cases = (one_taken, one_left, before_again, before_done)
 
 -- ---- reaches_past
 
@@ -132,100 +134,60 @@ module _ (l : List ℕ) (b : format.Builder) (n i : ℕ) where
   closed_end h = let e : n - i ≡ 0 = omega arith in rw e
 
   module _ (inv : closed_from l b n 1 ≡ closed_from l b n i) where
-    module _ (h : i < n) (x : Bool) (e : x ≡ reaches_past l b n i) where
-      pub closed_11 : x ≡ true → (z : Answer) → z ≡ verdict_answer (refused 11 0) → z ≡ verdict_answer (closed_from l b n 1)
-      closed_11 t z f = let q : reaches_past l b n i ≡ true = sym e ∙ t in same z _ _ f (inv ∙ closed_step h ∙ simp q)
+    module _ (h : i < n) (x : Bool) (e : x ≡ reaches_past l b n i) (z : Result ⊤ Refusal) (f : z ≡ verdict_answer (rule (not x) 11 0)) where
+      pub closed_11 : (a : Refusal) → z ≡ Err a → Err a ≡ verdict_answer (closed_from l b n 1)
+      closed_11 a q = first_refused (rule (not (reaches_past l b n i)) 11 0) (closed_from l b n (i + 1)) z (rw e at f) a q ∙ ap verdict_answer (sym (inv ∙ closed_step h))
 
-      pub closed_again : x ≡ false → closed_from l b n 1 ≡ closed_from l b n (i + 1)
-      closed_again t = let q : reaches_past l b n i ≡ false = sym e ∙ t in inv ∙ closed_step h ∙ simp q
+      pub closed_again : z ≡ Ok tt → closed_from l b n 1 ≡ closed_from l b n (i + 1)
+      closed_again q =
+          let r = answer_passed (rule (not (reaches_past l b n i)) 11 0) (sym (rw e at f) ∙ q) in
+          inv ∙ closed_step h ∙ ap (λ (v : Verdict). v and_then closed_from l b n (i + 1)) r
 
-    pub closed_done : n ≤ i → Passed ≡ verdict_answer (closed_from l b n 1)
+    pub closed_done : n ≤ i → Ok tt ≡ verdict_answer (closed_from l b n 1)
     closed_done h = passed_is _ (inv ∙ closed_end h)
-
-pub ruleset closed_cases = (closed_11, closed_again, closed_done)
 
 -- ---- point_fits
 
-module _ (l : List ℕ) (b : format.Builder) (p : Point) (v : Answer) (e : v ≡ verdict_answer (closed_from l b p.trees 1)) where
-  pub point_refused : (x : Refusal) → v ≡ Refused x → v ≡ verdict_answer (point_fits l b (point_of p))
+module _ (l : List ℕ) (b : format.Builder) (p : Point) where
+  -- trees 1 to n - 1, then the number of those that are open
+  pub point_is : (closed_from l b p.trees 1 and_then rule (eqb (length (open_before p.trees b.opened)) p.opened) 11 0) ≡ point_fits l b (point_of p)
   unfolding point_fits closed_from
-  point_refused x h =
-      let n = answer_refused (closed_from l b p.trees 1) x (sym e ∙ h) in
-      e ∙ ap verdict_answer n ∙ ap (λ (u : Verdict). verdict_answer (u and_then rule (eqb (length (open_before p.trees b.opened)) p.opened) 11 0)) (sym n)
-
-  module _ (h : v ≡ Passed) (k : ℕ) (f : k ≡ length (open_before p.trees b.opened)) (m : ℕ) (g : m ≡ p.opened) where
-    fit : closed_from l b p.trees 1 ≡ passed
-    fit = answer_passed (closed_from l b p.trees 1) (sym e ∙ h)
-
-    left : point_fits l b (point_of p) ≡ rule (eqb (length (open_before p.trees b.opened)) p.opened) 11 0
-    unfolding point_fits closed_from
-    left = ap (λ (u : Verdict). u and_then rule (eqb (length (open_before p.trees b.opened)) p.opened) 11 0) fit
-
-    pub point_11 : (k ≡ m → ⊥) → (z : Answer) → z ≡ verdict_answer (refused 11 0) → z ≡ verdict_answer (point_fits l b (point_of p))
-    point_11 i z q =
-        let j = ne_eqb (length (open_before p.trees b.opened)) p.opened (λ t. i (f ∙ t ∙ sym g)) in
-        same z _ _ q (left ∙ simp j)
-
-    pub point_ok : k ≡ m → v ≡ verdict_answer (point_fits l b (point_of p))
-    point_ok i =
-        let j = eq-eqb (length (open_before p.trees b.opened)) p.opened (sym f ∙ i ∙ g) in
-        e ∙ ap verdict_answer (fit ∙ sym (left ∙ simp j))
-
-pub ruleset point_cases = (point_refused, point_11, point_ok)
+  point_is = refl
 
 -- ---- restore_verdict
 
-module _ (l a : List ℕ) (n d : ℕ) (p : Point) (x : Bool) (e : x ≡ disagrees l (state_of n d a)) where
-  pub restore_10 : x ≡ true → (z : Answer) → z ≡ verdict_answer (refused 10 0) → z ≡ verdict_answer (restore_verdict l (state_of n d a) (point_of p))
-  restore_10 h z f = let q : disagrees l (state_of n d a) ≡ true = sym e ∙ h in same z _ _ f (simp q)
+module _ (l a : List ℕ) (n d : ℕ) where
+  abbrev agreed_at : Verdict
+  agreed_at = rule (not (disagrees l (state_of n d a))) 10 0
 
-  module _ (h : x ≡ false) where
-    agreeing : disagrees l (state_of n d a) ≡ false
-    agreeing = sym e ∙ h
+  pub agreeing : agreed_at ≡ passed → Agrees l (state_of n d a)
+  agreeing h = agrees_is l (state_of n d a) (not-true (disagrees l (state_of n d a)) (rule_passed (not (disagrees l (state_of n d a))) 10 0 h))
 
-    pub restore_11 : p.trees < 1 → (z : Answer) → z ≡ verdict_answer (refused 11 0) → z ≡ verdict_answer (restore_verdict l (state_of n d a) (point_of p))
-    restore_11 i z f = same z _ _ f (simp (agreeing, lt-leb _ _ i))
-
-    pub restore_later : 1 ≤ p.trees → n ≤ p.trees → Passed ≡ verdict_answer (restore_verdict l (state_of n d a) (point_of p))
-    restore_later i j = passed_is _ (simp (agreeing, le-leb _ _ i, le-leb _ _ j))
-
-    pub restore_fits : 1 ≤ p.trees → p.trees < n → (z : Answer) → z ≡ verdict_answer (point_fits l (state_of n d a) (point_of p))
-        → z ≡ verdict_answer (restore_verdict l (state_of n d a) (point_of p))
-    restore_fits i j z f = same z _ _ f (simp (agreeing, le-leb _ _ i, lt-leb _ _ j))
-
-    agree : Agrees l (state_of n d a)
-    agree = agrees_is l (state_of n d a) agreeing
-
-    pub restore_inside : p.trees < n → p.trees ≤ list_count l
-    restore_inside j = let z = agree.in_run in omega arith
+  module _ (h : agreed_at ≡ passed) where
+    pub restore_inside : (t : ℕ) → t < n → t ≤ list_count l
+    restore_inside t j = let z = (agreeing h).in_run in omega arith
 
     pub restore_few : d ≤ 255
-    restore_few = let z = agree.few in rw (numbers_length a d) at z
-
-    -- ---- restore_point
+    restore_few = let z = (agreeing h).few in rw (numbers_length a d) at z
 
     pub point_fits_u32 : d < 4294967296
     point_fits_u32 = let z = restore_few in omega arith
 
-    pub point_taken : taken.Point (record { trees = n; opened = d }) ≡ point_answer (point_verdict l (state_of n d a)) (restore_point l (state_of n d a))
+    pub point_taken : Ok (record { trees = n; opened = d }) ≡ point_answer (point_verdict l (state_of n d a)) (restore_point l (state_of n d a))
     unfolding point_answer
-    point_taken = let q = numbers_length a d in simp (agreeing, q)
+    point_taken = rw h (let q = numbers_length a d in rw q)
 
-  pub point_10 : x ≡ true → taken.Refused (record { number = 10; tree = 0 }) ≡ point_answer (point_verdict l (state_of n d a)) (restore_point l (state_of n d a))
+  pub point_10 : (x : Refusal) → agreed_at ≡ refused x.number x.tree → Err x ≡ point_answer (point_verdict l (state_of n d a)) (restore_point l (state_of n d a))
   unfolding point_answer
-  point_10 h = let q : disagrees l (state_of n d a) ≡ true = sym e ∙ h in simp q
-
-pub ruleset restore_verdict_cases = (restore_10, restore_11, restore_later, restore_fits, restore_inside, restore_few)
-
-pub ruleset restore_point_cases = (point_fits_u32, point_taken, point_10)
+  point_10 x h = rw h
 
 -- ---- restore
 
-module _ (b : Builder) (l : List ℕ) (p : Point) (v : Answer) (e : v ≡ verdict_answer (restore_verdict l (seen b) (point_of p))) where
-  pub restore_refused : (x : Refusal) → v ≡ Refused x → Taken (restore (point_of p)) b l (record { verdict = v; builder = b }) l
+module _ (b : Builder) (l : List ℕ) (p : Point) (v : Result ⊤ Refusal) (e : v ≡ verdict_answer (restore_verdict l (seen b) (point_of p))) where
+  pub restore_refused : (x : Refusal) → v ≡ Err x → Taken (restore (point_of p)) b l (record { verdict = v; builder = b }) l
   restore_refused x h = step_refused (restore (point_of p)) b l v e x h
 
-  module _ (h : v ≡ Passed) where
+  module _ (h : v ≡ Ok tt) where
     pub restore_stays : b.count ≤ p.trees → Taken (restore (point_of p)) b l (record { verdict = v; builder = b }) l
     unfolding after
     restore_stays k = step_passed (restore (point_of p)) b l v e h b (simp (le-leb _ _ k)) l refl

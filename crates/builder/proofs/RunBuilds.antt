@@ -6,6 +6,7 @@ use mathlib.Core.List.{List, []}
 use lib.ListN.{length}
 use lib.Dec.{eqb}
 use borrow.Author.Tests.{ne_eqb}
+use Rattle.std.specs.Prelude.{Result, Ok}
 use Rattle.format.specs.Verdict.{passed, refused, refusal, rule}
 use Rattle.format.specs.WordList.{list_rows}
 use Rattle.format.specs.Builder.{new, Step, builder_from, disagrees, ready, build, build_skip_top_subtree, written}
@@ -14,8 +15,6 @@ use Rattle.builder.specs.Frames.{Model, model_from, model_list, model_skip}
 use Rattle.builder.proofs.BuilderBuild.{run_build, run_build_skip, run_rows, run_skip_rows}
 use Rattle.tree.specs.Refusal.{report_answer}
 use Rattle.tree.specs.Types.{words_of}
-use Rattle.tree.specs.declared.refusal.Report.{Report}
-use Rattle.tree.specs.declared.refusal.Verdict.TheVariants.{Passed}
 use Rattle.tree.specs.declared.types.Span.{Span}
 use Rattle.writer.specs.Written.{Written}
 use Rattle.builder.specs.declared.state.Builder.{Builder}
@@ -25,16 +24,17 @@ use Rattle.builder.specs.Taken.{Begun}
 use Rattle.builder.specs.Building.{Made, Built, BuiltSkipping}
 use Rattle.builder.proofs.Numbers.{numbers_length}
 use Rattle.builder.proofs.Runs.{Ran, from_new, new_passed}
+use Rattle.tree.specs.declared.refusal.Refusal.{Refusal}
 
 nothing_open : (a : List ℕ) (d : ℕ) → d ≡ 0 → numbers a d ≡ []
 unfolding numbers
 nothing_open a d e = rw e
 
 -- the writer's contract: what it made of a list
-as_written : (parts symbols work out q : List ℕ) (r : Report) (work' out' : List ℕ) → Made (written parts symbols work out q) r work' out' → Written parts symbols q work out r work' out'
+as_written : (parts symbols work out q : List ℕ) (r : Result ℕ Refusal) (work' out' : List ℕ) → Made (written parts symbols work out q) r work' out' → Written parts symbols q work out r work' out'
 as_written parts symbols work out q r work' out' h = record { answer = h.answer; works = h.works; outs = h.outs }
 
-module _ (kind : ℕ) (o c : Span) (l : List ℕ) (r₀ : Stepped) (l₀ : List ℕ) (begun : Begun kind o c l r₀ l₀) (ok : r₀.verdict ≡ Passed)
+module _ (kind : ℕ) (o c : Span) (l : List ℕ) (r₀ : Stepped) (l₀ : List ℕ) (begun : Begun kind o c l r₀ l₀) (ok : r₀.verdict ≡ Ok tt)
     (ss : List Step) (b : Builder) (m : List ℕ) (ran : Ran ss r₀.builder l₀ b m) (shut : b.depth ≡ 0) where
   -- the trees that the steps not refused have made
   abbrev model : Model
@@ -49,7 +49,7 @@ module _ (kind : ℕ) (o c : Span) (l : List ℕ) (r₀ : Stepped) (l₀ : List 
       sym (ap (λ (u : format.Builder). u.opened) x.builder) ∙ nothing_open b.opened b.depth shut
 
   -- r is the report that was returned, work' and out' what the lent runs hold then
-  module _ (parts symbols work out : List ℕ) (r : Report) (work' out' : List ℕ) where
+  module _ (parts symbols work out : List ℕ) (r : Result ℕ Refusal) (work' out' : List ℕ) where
     -- BUILD: what the writer returns of the list pushed so far
     pub run_built : Built b m parts symbols work out r work' out' → Written parts symbols (model_list (model_from kind (words_of o) (words_of c) l ss)) work out r work' out'
     run_built h =
@@ -74,7 +74,7 @@ module _ (kind : ℕ) (o c : Span) (l : List ℕ) (r₀ : Stepped) (l₀ : List 
   run_skip_lawful = run_skip_rows kind (words_of o) (words_of c) l ss fresh none_open_lem
 
 -- "10 while one is open": nothing is changed, after any calls
-module _ (b : Builder) (m : List ℕ) (open_one : b.depth ≡ 0 → ⊥) (parts symbols work out : List ℕ) (r : Report) (work' out' : List ℕ) where
+module _ (b : Builder) (m : List ℕ) (open_one : b.depth ≡ 0 → ⊥) (parts symbols work out : List ℕ) (r : Result ℕ Refusal) (work' out' : List ℕ) where
   not_ready : ready m (seen b) ≡ refused 10 0
   not_ready =
       let q = ne_eqb (length (numbers b.opened b.depth)) 0 (λ i. open_one (sym (numbers_length b.opened b.depth) ∙ i)) in

@@ -4,6 +4,7 @@ use mathlib.Core.Bool.{true, false}
 use mathlib.Core.Path.{◌≡◌, refl, sym, ap, ◌∙◌, subst}
 use mathlib.Core.List.{List, [], ◌∷◌}
 use lib.ListN.{length, take}
+use Rattle.std.specs.Prelude.{Result, Ok}
 use Rattle.format.specs.Verdict.{Verdict, passed, refused, contents}
 use Rattle.format.specs.Width.{tree_size}
 use Rattle.format.specs.Builder.{disagrees, no_builder, new_builder, new_verdict, new, point_verdict, restore_point, Step, restore, builder_step, builder_run, builder_from}
@@ -14,12 +15,11 @@ use Rattle.builder.proofs.BuilderRestore.{Restored, restore_after}
 use Rattle.tree.specs.Refusal.{verdict_answer}
 use Rattle.tree.specs.Types.{words_of}
 use Rattle.tree.proofs.Answers.{answer_passed}
-use Rattle.tree.specs.declared.refusal.Verdict.TheVariants.{Passed}
 use Rattle.tree.specs.declared.types.Span.{Span}
 use Rattle.builder.specs.declared.state.Builder.{Builder}
 use Rattle.builder.specs.declared.state.Stepped.{Stepped}
-use Rattle.builder.specs.declared.restore.PointTaken.{PointTaken}
-use Rattle.builder.specs.declared.restore.PointTaken.TheVariants as taken
+use Rattle.builder.specs.declared.state.Point.{Point}
+use Rattle.tree.specs.declared.refusal.Refusal.{Refusal}
 use Rattle.builder.specs.State.{numbers, seen}
 use Rattle.builder.specs.Restoring.{point_answer}
 use Rattle.builder.specs.Taken.{none_open, Begun, Taken}
@@ -61,7 +61,7 @@ none_seen : (n : ℕ) → seen (none_open n) ≡ record { count = n; opened = []
 unfolding numbers
 none_seen n = refl
 
-passed_answer : verdict_answer passed ≡ Passed
+passed_answer : verdict_answer passed ≡ Ok tt
 unfolding verdict_answer
 passed_answer = refl
 
@@ -79,7 +79,7 @@ abbrev Returns : List Step → format.Builder → List ℕ → Type 0
 Returns ts u w = stays_inside 0 (accepted ts u w) ≡ true → Restored u w (builder_run ts u w).builder (builder_run ts u w).words
 
 pub record Back (b : Builder) (m m₂ : List ℕ) (r : Stepped) (m₃ : List ℕ) : Type 0 where
-  pub passes : r.verdict ≡ Passed
+  pub passes : r.verdict ≡ Ok tt
   pub builder : seen r.builder ≡ seen b
   pub depth : r.builder.depth ≡ b.depth
   pub words : m₃ ≡ m₂
@@ -108,13 +108,13 @@ module _ (kind : ℕ) (o c : Span) (l : List ℕ) (r₀ : Stepped) (l₀ : List 
         sized = y.sized;
       }
 
-  pub new_passed : r₀.verdict ≡ Passed → (new kind (words_of o) (words_of c) l).verdict ≡ passed
+  pub new_passed : r₀.verdict ≡ Ok tt → (new kind (words_of o) (words_of c) l).verdict ≡ passed
   unfolding new
   new_passed ok = answer_passed (new_verdict kind (words_of o) (words_of c) l) (sym begun.answer ∙ ok)
 
   -- ---- restoring, where `new` was not refused
 
-  module _ (ok : r₀.verdict ≡ Passed) (ss : List Step) (b : Builder) (m : List ℕ) (ran : Ran ss r₀.builder l₀ b m) where
+  module _ (ok : r₀.verdict ≡ Ok tt) (ss : List Step) (b : Builder) (m : List ℕ) (ran : Ran ss r₀.builder l₀ b m) where
     fresh : (new kind (words_of o) (words_of c) l).verdict ≡ passed
     fresh = new_passed ok
 
@@ -125,7 +125,7 @@ module _ (kind : ℕ) (o c : Span) (l : List ℕ) (r₀ : Stepped) (l₀ : List 
         (λ i. disagrees (x.words i) (x.builder i)) ∙ always_agrees kind (words_of o) (words_of c) l ss fresh
 
     -- so `restore_point` gives the present moment
-    pub run_point : (p : PointTaken) → p ≡ point_answer (point_verdict m (seen b)) (restore_point m (seen b)) → p ≡ taken.Point (record { trees = b.count; opened = b.depth })
+    pub run_point : (p : Result Point Refusal) → p ≡ point_answer (point_verdict m (seen b)) (restore_point m (seen b)) → p ≡ Ok (record { trees = b.count; opened = b.depth })
     unfolding point_answer
     run_point p e =
         let a = run_agrees in

@@ -9,7 +9,7 @@ use borrow.Author.Tests.{ltb-true, eqb-true, not-true}
 use lib.Dec.{ltb, leb, eqb}
 use lib.ListN.{length, get_or, set, length-set}
 use lib.Seq.{get_or-set_same, get_or-set_other}
-use Rattle.std.specs.Prelude.{if◌then◌else◌}
+use Rattle.std.specs.Prelude.{if◌then◌else◌, Err}
 use Rattle.format.specs.Verdict.{Verdict, passed, refused, ◌and_then◌, contents, rule, each_from}
 use Rattle.format.specs.Builder.{open_fit, sub_at, disagrees, reaches_past, but_last, open_before, point_fits, open_verdict, restore_verdict, restored, Step, push, open_subtree, close_subtree, restore, step_verdict, step_builder, step_words, builder_step}
 use Rattle.format.specs.Builder as format
@@ -20,7 +20,6 @@ use Rattle.builder.proofs.BuilderRestore.{agrees_is, fit_below}
 use Rattle.tree.specs.Refusal.{verdict_answer}
 use Rattle.tree.proofs.Answers.{answer_refused}
 use Rattle.tree.specs.declared.refusal.Refusal.{Refusal}
-use Rattle.tree.specs.declared.refusal.Verdict.TheVariants.{Refused}
 use Rattle.builder.specs.declared.state.Builder.{Builder}
 use Rattle.builder.specs.declared.state.Stepped.{Stepped}
 use Rattle.builder.specs.State.{numbers, seen}
@@ -149,7 +148,7 @@ module _ (s : Step) (b : Builder) (l : List ℕ) (r : Stepped) (l' : List ℕ) (
           (ap seen q ∙ sym a.1, subst Sized (sym q) z)
 
   -- REFUSED: a refused step changes nothing, whatever the builder
-  pub step_kept : (x : Refusal) → r.verdict ≡ Refused x → (r.builder ≡ b) × (l' ≡ l)
+  pub step_kept : (x : Refusal) → r.verdict ≡ Err x → (r.builder ≡ b) × (l' ≡ l)
   unfolding builder_step
   step_kept x h =
       let n = answer_refused (step_verdict s (seen b) l) x (sym taken.answer ∙ h) in

@@ -7,6 +7,7 @@ use native.Mathlib.Omega.{arith}
 use borrow.Author.Tests.{leb-true, ltb-true, not-true}
 use lib.Dec.{leb, ltb}
 use lib.ListN.{length, get_or, set}
+use Rattle.std.specs.Prelude.{Result, Ok, Err, ⊤}
 use Rattle.format.specs.Verdict.{Verdict, passed, refused, ◌and_then◌, contents, rule}
 use Rattle.format.specs.Word.{put}
 use Rattle.format.specs.Width.{tree_size}
@@ -23,8 +24,6 @@ use Rattle.tree.specs.Types.{words_of}
 use Rattle.tree.specs.Refusal.{verdict_answer}
 use Rattle.tree.proofs.Answers.{answer_passed, answer_refused}
 use Rattle.tree.specs.declared.refusal.Refusal.{Refusal}
-use Rattle.tree.specs.declared.refusal.Verdict.{Verdict as Answer}
-use Rattle.tree.specs.declared.refusal.Verdict.TheVariants.{Passed, Refused}
 use Rattle.tree.specs.declared.types.Span.{Span}
 use Rattle.tree.specs.declared.types.Leaf.{Leaf}
 use Rattle.builder.specs.declared.state.Builder.{Builder}
@@ -37,11 +36,11 @@ use Rattle.builder.proofs.Pushed.{words_whole}
 
 -- ---- new
 
-module _ (kind : ℕ) (o c : Span) (l : List ℕ) (v : Answer) (e : v ≡ verdict_answer (new_verdict kind (words_of o) (words_of c) l)) where
+module _ (kind : ℕ) (o c : Span) (l : List ℕ) (v : Result ⊤ Refusal) (e : v ≡ verdict_answer (new_verdict kind (words_of o) (words_of c) l)) where
   abbrev N : Verdict
   N = new_verdict kind (words_of o) (words_of c) l
 
-  pub new_refused : (x : Refusal) → v ≡ Refused x → (b : Builder) → b ≡ none_open 0 → Begun kind o c l (record { verdict = v; builder = b }) l
+  pub new_refused : (x : Refusal) → v ≡ Err x → (b : Builder) → b ≡ none_open 0 → Begun kind o c l (record { verdict = v; builder = b }) l
   unfolding new
   new_refused x h b f =
       let n = answer_refused N x (sym e ∙ h) in
@@ -51,7 +50,7 @@ module _ (kind : ℕ) (o c : Span) (l : List ℕ) (v : Answer) (e : v ≡ verdic
         words = sym (ap (λ (u : Verdict). contents u l (put l 0 (subtree_words 0 kind (words_of o) (words_of c)))) n);
       }
 
-  module _ (h : v ≡ Passed) where
+  module _ (h : v ≡ Ok tt) where
     ok : N ≡ passed
     ok = answer_passed N (sym e ∙ h)
 
@@ -76,8 +75,8 @@ pub ruleset new_cases = (new_refused, new_room, new_done)
 
 -- ---- any step
 
-module _ (s : Step) (b : Builder) (l : List ℕ) (v : Answer) (e : v ≡ verdict_answer (step_verdict s (seen b) l)) where
-  pub step_refused : (x : Refusal) → v ≡ Refused x → Taken s b l (record { verdict = v; builder = b }) l
+module _ (s : Step) (b : Builder) (l : List ℕ) (v : Result ⊤ Refusal) (e : v ≡ verdict_answer (step_verdict s (seen b) l)) where
+  pub step_refused : (x : Refusal) → v ≡ Err x → Taken s b l (record { verdict = v; builder = b }) l
   step_refused x h =
       let n = answer_refused (step_verdict s (seen b) l) x (sym e ∙ h) in
       let a = after_step s (seen b) l (refused x.number x.tree) n in
@@ -87,7 +86,7 @@ module _ (s : Step) (b : Builder) (l : List ℕ) (v : Answer) (e : v ≡ verdict
         words = sym a.2;
       }
 
-  pub step_passed : v ≡ Passed → (b' : Builder) → b' ≡ after s b → (l' : List ℕ) → l' ≡ step_words s (seen b) l → Taken s b l (record { verdict = v; builder = b' }) l'
+  pub step_passed : v ≡ Ok tt → (b' : Builder) → b' ≡ after s b → (l' : List ℕ) → l' ≡ step_words s (seen b) l → Taken s b l (record { verdict = v; builder = b' }) l'
   step_passed h b' f l' g =
       let n = answer_passed (step_verdict s (seen b) l) (sym e ∙ h) in
       let a = after_step s (seen b) l passed n in
@@ -110,11 +109,11 @@ roomy l b h =
 
 -- ---- push
 
-module _ (b : Builder) (l w : List ℕ) (v : Answer) (e : v ≡ verdict_answer (push_verdict l (seen b) w)) where
-  pub push_refused : (x : Refusal) → v ≡ Refused x → Taken (push w) b l (record { verdict = v; builder = b }) l
+module _ (b : Builder) (l w : List ℕ) (v : Result ⊤ Refusal) (e : v ≡ verdict_answer (push_verdict l (seen b) w)) where
+  pub push_refused : (x : Refusal) → v ≡ Err x → Taken (push w) b l (record { verdict = v; builder = b }) l
   push_refused x h = step_refused (push w) b l v e x h
 
-  module _ (h : v ≡ Passed) where
+  module _ (h : v ≡ Ok tt) where
     said : (agreed l (seen b) ≡ passed) × ((rule (leaf_fits w) 2 b.count and_then room l (seen b)) ≡ passed)
     said = both (agreed l (seen b)) (rule (leaf_fits w) 2 b.count and_then room l (seen b)) (answer_passed (push_verdict l (seen b) w) (sym e ∙ h))
 
@@ -157,11 +156,11 @@ module _ (l : List ℕ) (b : format.Builder) (kind : ℕ) (s : WordSpan) (h : op
   pub open_few : length b.opened < 255
   open_few = ltb-true _ _ (rule_passed (ltb (length b.opened) 255) 4 b.count told.0)
 
-module _ (b : Builder) (l : List ℕ) (kind : ℕ) (s : Span) (v : Answer) (e : v ≡ verdict_answer (open_verdict l (seen b) kind (words_of s))) where
-  pub open_refused : (x : Refusal) → v ≡ Refused x → Taken (open_subtree kind (words_of s)) b l (record { verdict = v; builder = b }) l
+module _ (b : Builder) (l : List ℕ) (kind : ℕ) (s : Span) (v : Result ⊤ Refusal) (e : v ≡ verdict_answer (open_verdict l (seen b) kind (words_of s))) where
+  pub open_refused : (x : Refusal) → v ≡ Err x → Taken (open_subtree kind (words_of s)) b l (record { verdict = v; builder = b }) l
   open_refused x h = step_refused (open_subtree kind (words_of s)) b l v e x h
 
-  module _ (h : v ≡ Passed) where
+  module _ (h : v ≡ Ok tt) where
     open_ok : open_verdict l (seen b) kind (words_of s) ≡ passed
     open_ok = answer_passed (open_verdict l (seen b) kind (words_of s)) (sym e ∙ h)
 
@@ -197,11 +196,11 @@ pub ruleset open_cases = (open_refused, open_room, open_small, open_index, open_
 
 -- ---- close
 
-module _ (b : Builder) (l : List ℕ) (s : Span) (v : Answer) (e : v ≡ verdict_answer (close_verdict l (seen b) (words_of s))) where
-  pub close_refused : (x : Refusal) → v ≡ Refused x → Taken (close_subtree (words_of s)) b l (record { verdict = v; builder = b }) l
+module _ (b : Builder) (l : List ℕ) (s : Span) (v : Result ⊤ Refusal) (e : v ≡ verdict_answer (close_verdict l (seen b) (words_of s))) where
+  pub close_refused : (x : Refusal) → v ≡ Err x → Taken (close_subtree (words_of s)) b l (record { verdict = v; builder = b }) l
   close_refused x h = step_refused (close_subtree (words_of s)) b l v e x h
 
-  module _ (h : v ≡ Passed) where
+  module _ (h : v ≡ Ok tt) where
     abbrev some : Verdict
     some = rule (leb 1 (length (numbers b.opened b.depth))) 10 b.count
 

@@ -1,18 +1,17 @@
 -- A point of this crate as the definitions' point, and the answer of `restore_point`.
-use Rattle.std.specs.Prelude.{ℕ, ◌-◌, not, List}
+use Rattle.std.specs.Prelude.{ℕ, ◌-◌, not, List, Result, Ok, Err}
 use Rattle.format.specs.Verdict.{Verdict, passed, refused, rule, each_from}
 use Rattle.format.specs.Builder.{reaches_past}
 use Rattle.format.specs.Builder as format
 use Rattle.builder.specs.declared.state.Point.{Point}
-use Rattle.builder.specs.declared.restore.PointTaken.{PointTaken}
-use Rattle.builder.specs.declared.restore.PointTaken.TheVariants as taken
+use Rattle.tree.specs.declared.refusal.Refusal.{Refusal}
 
 abbrev pub point_of : Point → format.Point
 point_of p = record { trees = p.trees; opened = p.opened }
 
-unfoldable pub point_answer : Verdict → format.Point → PointTaken
-point_answer passed p = taken.Point (record { trees = p.trees; opened = p.opened })
-point_answer (refused r n) p = taken.Refused (record { number = r; tree = n })
+unfoldable pub point_answer : Verdict → format.Point → Result Point Refusal
+point_answer passed p = Ok (record { trees = p.trees; opened = p.opened })
+point_answer (refused r n) p = Err (record { number = r; tree = n })
 
 -- trees i to n - 1: "11 if a closed subtree (not the root) before n reaches past n"
 unfoldable pub closed_from : List ℕ → format.Builder → ℕ → ℕ → Verdict

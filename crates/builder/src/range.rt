@@ -12,8 +12,9 @@ use pack::span::range_fits;
 use tree::fields::is_scalar;
 use tree::kinds::lit_kind_word;
 use tree::types::{Leaf, Literal, Punct, Span, TokenTree};
-use tree::words::{WordsRead, tree_from_words, tree_words, words_of};
+use tree::words::{tree_from_words, tree_words, words_of};
 use width::TREE_WORDS;
+use width::sort::SUBTREE;
 
 pub(crate) fn span_fits(span: Span) -> bool
     ensures { result ≡ range_fits (words_of span) }
@@ -21,34 +22,22 @@ pub(crate) fn span_fits(span: Span) -> bool
     range_fits(span.start, span.len)
 }
 
+#[tactic(auto, using(crate::proofs::RangeReturns::leaf_cases))]
 fn punct_fits(p: Punct) -> bool
     ensures { result ≡ token_fits (trees.Leaf (leaves.Punct p)) }
 {
-    let span = p.span;
-    if !span_fits(span) {
-        return false;
-    }
-    is_scalar(p.char)
+    span_fits(p.span) && is_scalar(p.char)
 }
 
+#[tactic(auto, using(crate::proofs::RangeReturns::leaf_cases))]
 fn literal_fits(p: Literal) -> bool
     ensures { result ≡ token_fits (trees.Leaf (leaves.Literal p)) }
 {
-    let span = p.span;
-    if !span_fits(span) {
-        return false;
-    }
-    let kind = p.kind;
     // A raw count above 255 passes the two low bytes.
-    if 65535 < lit_kind_word(kind) {
-        return false;
-    }
-    if 255 < p.suffix_len {
-        return false;
-    }
-    true
+    span_fits(p.span) && lit_kind_word(p.kind) <= 65535 && p.suffix_len <= 255
 }
 
+#[tactic(auto, using(crate::proofs::RangeReturns::leaf_cases))]
 pub(crate) fn leaf_fits(leaf: Leaf) -> bool
     ensures { result ≡ token_fits (trees.Leaf leaf) }
 {
@@ -64,8 +53,8 @@ pub fn words_fit(words: &[u32; TREE_WORDS]) -> bool
     ensures { result ≡ leaf_fits words.now }
 {
     match tree_from_words(words) {
-        WordsRead::Bad(_) => false,
-        WordsRead::Got(tree) => match tree {
+        Err(_) => false,
+        Ok(tree) => match tree {
             TokenTree::Leaf(_) => true,
             TokenTree::Subtree(_) => false,
         },
@@ -73,6 +62,7 @@ pub fn words_fit(words: &[u32; TREE_WORDS]) -> bool
 }
 
 // The words of a leaf; those of no tree where it is out of range, since it may have no place in words.
+#[tactic(auto, using(crate::proofs::RangeReturns::words_cases))]
 pub fn leaf_words(leaf: Leaf) -> [u32; TREE_WORDS]
     ensures { result ≡ pushed leaf }
 {
@@ -88,5 +78,5 @@ pub fn leaf_words(leaf: Leaf) -> [u32; TREE_WORDS]
 pub(crate) fn subtree_words(kind: u32, opening: Span, closing: Span) -> [u32; TREE_WORDS]
     ensures { result ≡ subtree_words 0 kind (words_of opening) (words_of closing) }
 {
-    words_of(3, 0, kind, opening, closing)
+    words_of(SUBTREE, 0, kind, opening, closing)
 }

@@ -2,12 +2,13 @@
 ghost use Rattle.std.specs.Prelude.{◌≡◌, ◌&&◌, ◌≤◌, ◌<◌, leb, ltb};
 ghost use Rattle.format.specs.Builder.{sub_at, open_fit, disagrees};
 ghost use Rattle.format.specs.WordList.{list_count};
-ghost use Rattle.builder.specs.State.{numbers, state_of};
+ghost use Rattle.builder.specs.State.{numbers, seen};
 
 use crate::sort::is_subtree;
-use tree::raw::place;
-use tree::refusal::Verdict;
+use tree::refusal::Refusal;
 use width::TREE_WORDS;
+
+pub(crate) const MOST_TREES: u32 = 1048576;
 
 // How many subtrees may be open at once, the root apart.
 pub const MOST_OPEN: usize = 255;
@@ -21,7 +22,7 @@ pub struct Builder {
 }
 
 // A moment to come back to: so many trees, so many of them open.
-#[derive(Clone, Copy)]
+#[derive(Clone, Copy, PartialEq, Eq, Debug)]
 pub struct Point {
     pub trees: u32,
     pub opened: u32,
@@ -29,7 +30,7 @@ pub struct Point {
 
 #[derive(Clone, Copy)]
 pub struct Stepped {
-    pub verdict: Verdict,
+    pub verdict: Result<(), Refusal>,
     pub builder: Builder,
 }
 
@@ -38,53 +39,36 @@ fn is_open_under(list: &[u32], m: u32, top: u32) -> bool
     requires { top ≤ list_count list.now }
     ensures { result ≡ (leb 1 m && ltb m top && sub_at list.now m) }
 {
-    if m < 1 {
-        return false;
-    }
-    if top <= m {
-        return false;
-    }
-    is_subtree(list, place(m))
+    1 <= m && m < top && is_subtree(list, m as usize)
 }
 
-// Whether the open trees are rising numbers of subtrees, from 1 to below the count.
-fn open_fit(list: &[u32], count: u32, depth: usize, opened: &[u32; 256]) -> bool
-    requires { (count ≤ list_count list.now) × (depth ≤ 255) }
-    ensures { result ≡ open_fit list.now count (numbers opened.now depth) }
-{
-    let mut top = count;
-    let mut d = depth;
-    while 0 < d {
-        let m = opened[d - 1];
-        if !is_open_under(list, m, top) {
-            return false;
+impl Builder {
+    // Whether the open trees are rising numbers of subtrees, from 1 to below the count.
+    #[tactic(auto, using(crate::proofs::StateReturns::fit_cases))]
+    fn open_fit(&self, list: &[u32]) -> bool
+        requires { (self.now.count ≤ list_count list.now) × (self.now.depth ≤ 255) }
+        ensures { result ≡ open_fit list.now self.now.count (numbers self.now.opened self.now.depth) }
+    {
+        let mut top = self.count;
+        for d in (0..self.depth).rev() {
+            let m = self.opened[d];
+            if !is_open_under(list, m, top) {
+                return false;
+            }
+            top = m;
         }
-        top = m;
-        d = d - 1;
+        true
     }
-    true
-}
 
-pub(crate) fn disagrees(list: &[u32], count: u32, depth: usize, opened: &[u32; 256]) -> bool
-    ensures { result ≡ disagrees list.now (state_of count depth opened.now) }
-{
-    if count == 0 {
-        return true;
+    #[tactic(auto, using(crate::proofs::StateReturns::disagree_cases))]
+    pub(crate) fn disagrees(&self, list: &[u32]) -> bool
+        ensures { result ≡ disagrees list.now (seen self.now) }
+    {
+        self.count == 0
+            || MOST_TREES < self.count
+            || list.len() / TREE_WORDS < self.count as usize
+            || MOST_OPEN < self.depth
+            || !is_subtree(list, 0)
+            || !self.open_fit(list)
     }
-    if 1048576 < count {
-        return true;
-    }
-    if list.len() / TREE_WORDS < place(count) {
-        return true;
-    }
-    if MOST_OPEN < depth {
-        return true;
-    }
-    if !is_subtree(list, 0) {
-        return true;
-    }
-    if !open_fit(list, count, depth, opened) {
-        return true;
-    }
-    false
 }

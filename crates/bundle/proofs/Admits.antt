@@ -4,6 +4,7 @@ use mathlib.Core.Path.{◌≡◌, refl, sym, ap, ◌∙◌}
 use mathlib.Core.List.{List}
 use mathlib.Core.Logic.{◌⊎◌, ⊎_elim}
 use native.Mathlib.Omega.{arith}
+use Rattle.std.specs.Prelude.{Option, None}
 use Rattle.format.specs.Verdict.{Verdict, passed, refused}
 use Rattle.format.specs.Plain.{Listing}
 use Rattle.format.specs.Reader.{Shape}
@@ -11,8 +12,7 @@ use Rattle.format.specs.Check.{Admitted}
 use Rattle.format.specs.Buffer.{word_shape, own_reader}
 use Rattle.format.specs.Bundle.{Bundle, BundleRead, bundle, bad_bundle, bundle_at, check_of, bundle_check, number_of}
 use Rattle.bundle.specs.Answer.{read_answer, read_number}
-use Rattle.bundle.specs.declared.read.BundleRead.{BundleRead as Read}
-use Rattle.bundle.specs.declared.read.BundleRead.TheVariants.{Bad}
+use Rattle.bundle.specs.declared.read.Contents.{Contents}
 use Rattle.format.proofs.CheckRefusal as rows
 use Rattle.format.proofs.NestLaw.{Why, passes_other, passes_list, deep}
 use Rattle.format.proofs.TreeRefusal.{own_numbers, own_refusal}
@@ -48,7 +48,7 @@ zero_passed (bundle B) e = go (check_of (bundle B)) refl
         let z : r ≡ 0 = sym (ap number_of f) ∙ e in
         absurd (omega arith)
 
-bad_read : (b : List ℕ) (q : BundleRead) → read_answer b q ≡ Bad → q ≡ bad_bundle
+bad_read : (b : List ℕ) (q : BundleRead) → read_answer b q ≡ None → q ≡ bad_bundle
 unfolding read_answer
 bad_read b bad_bundle e = refl
 bad_read b (bundle B) e = let z : ◌≡◌ {A = ℕ} 0 1 = cc in absurd (omega arith)
@@ -67,8 +67,8 @@ module _ (b : List ℕ) (r : ℕ) (says : r ≡ number_of (bundle_check b)) wher
     admitted_zero a = says ∙ ap number_of (ap check_of q ∙ own_complete B.bytes B.trees B.parts B.symbols a)
 
   -- what `read_bundle` answers of a bad bundle is what the check says
-  pub bad_refused : (a : Read) → a ≡ read_answer b (bundle_at b) → a ≡ Bad → bundle_check b ≡ refused (read_number a) 0
-  bad_refused a e f = ap check_of (bad_read b (bundle_at b) (sym e ∙ f)) ∙ sym (ap (λ (x : Read). refused (read_number x) 0) f)
+  pub bad_refused : (a : Option Contents) → a ≡ read_answer b (bundle_at b) → a ≡ None → bundle_check b ≡ refused (read_number a) 0
+  bad_refused a e f = ap check_of (bad_read b (bundle_at b) (sym e ∙ f)) ∙ sym (ap (λ (x : Option Contents). refused (read_number x) 0) f)
 
   pub bad_one : bundle_at b ≡ bad_bundle → r ≡ 1
   bad_one q = says ∙ ap (λ (x : BundleRead). number_of (check_of x)) q

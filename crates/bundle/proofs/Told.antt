@@ -5,20 +5,13 @@ use mathlib.Core.List.{List}
 use native.Mathlib.Omega.{arith}
 use lib.ListN.{length, take, drop, length-drop}
 use lib.Seq.{take_all}
+use Rattle.std.specs.Prelude.{Option, Some, None}
 use Rattle.format.specs.Width.{part_size}
 use Rattle.format.specs.Bundle as bundles
 use Rattle.format.specs.Bundle.{bundle_at}
 use Rattle.bundle.specs.Answer.{read_answer}
 use Rattle.bundle.specs.declared.read.Contents.{Contents}
-use Rattle.bundle.specs.declared.read.BundleRead.{BundleRead}
-use Rattle.bundle.specs.declared.read.BundleRead.TheVariants.{Bundle, Bad}
 use Rattle.bundle.proofs.Records.{Placed, bytes_placed}
-
-bundle_bad : {A : Type 0} (x : Contents) → Bundle x ≡ Bad → A
-bundle_bad x e = let z : ◌≡◌ {A = ℕ} 0 1 = cc in absurd (omega arith)
-
-same_bundle : (x y : Contents) → Bundle x ≡ Bundle y → x ≡ y
-same_bundle x y e = cc
 
 -- the bundle that is read, by its contents
 pub record Holds (b : List ℕ) (x : Contents) (B : bundles.Bundle) : Type 0 where
@@ -37,10 +30,10 @@ abbrev pub Told : List ℕ → Contents → Type 0
 Told b x = (B : bundles.Bundle) × Holds b x B
 
 module _ (b : List ℕ) where
-  tell : (r : bundles.BundleRead) → Placed b r → bundle_at b ≡ r → (x : Contents) → read_answer b r ≡ Bundle x → Told b x
+  tell : (r : bundles.BundleRead) → Placed b r → bundle_at b ≡ r → (x : Contents) → read_answer b r ≡ Some x → Told b x
   unfolding read_answer
   tell (bundles.bundle B) p e x q =
-      let d = same_bundle _ x q in
+      let d : ◌≡◌ {A = Contents} (record { trees = B.trees; parts = length B.parts / part_size; symbols = length B.symbols; start = length b - length B.bytes }) x = cc in
       let s : length b - length B.bytes ≡ x.start = ap (λ (y : Contents). y.start) d in (
         B,
         record {
@@ -52,19 +45,19 @@ module _ (b : List ℕ) where
           inside = omega arith;
         },
       )
-  tell bundles.bad_bundle p e x q = bundle_bad x (sym q)
+  tell bundles.bad_bundle p e x q = cc
 
-  told_bad : (r : bundles.BundleRead) → read_answer b r ≡ Bad → r ≡ bundles.bad_bundle
+  told_bad : (r : bundles.BundleRead) → read_answer b r ≡ None → r ≡ bundles.bad_bundle
   unfolding read_answer
-  told_bad (bundles.bundle B) q = bundle_bad _ q
+  told_bad (bundles.bundle B) q = cc
   told_bad bundles.bad_bundle q = refl
 
-  module _ (r : BundleRead) (e : r ≡ read_answer b (bundle_at b)) where
-    pub told : (x : Contents) → r ≡ Bundle x → Told b x
+  module _ (r : Option Contents) (e : r ≡ read_answer b (bundle_at b)) where
+    pub told : (x : Contents) → r ≡ Some x → Told b x
     told x q = tell (bundle_at b) (bytes_placed b) refl x (sym e ∙ q)
 
-    pub is_bad : r ≡ Bad → bundle_at b ≡ bundles.bad_bundle
+    pub is_bad : r ≡ None → bundle_at b ≡ bundles.bad_bundle
     is_bad q = told_bad (bundle_at b) (sym e ∙ q)
 
-    pub start_inside : (x : Contents) → r ≡ Bundle x → x.start ≤ length b
+    pub start_inside : (x : Contents) → r ≡ Some x → x.start ≤ length b
     start_inside x q = (told x q).1.inside

@@ -3,20 +3,19 @@ ghost use Rattle.std.specs.Prelude.{◌≡◌};
 ghost use Rattle.format.specs.Bundle.{bundle_check};
 ghost use Rattle.tree.specs.Refusal.{verdict_answer};
 
-use crate::read::{BundleRead, read_bundle};
+use crate::read::read_bundle;
 use checker::check::{check, refused};
-use tree::refusal::Verdict;
+use pack::row;
+use tree::refusal::Refusal;
 
-pub fn check_bundle(b: &[u8]) -> Verdict
+pub fn check_bundle(b: &[u8]) -> Result<(), Refusal>
     ensures { result ≡ verdict_answer (bundle_check b.now) }
 {
-    let read = read_bundle(b);
-    let BundleRead::Bundle(contents) = read else {
-        return refused(1, 0);
+    let Some(contents) = read_bundle(b) else {
+        return refused(row::SIZE, 0);
     };
-    let start = contents.start;
     check(
-        &b[start..],
+        &b[contents.start..],
         contents.trees,
         contents.parts,
         contents.symbols,

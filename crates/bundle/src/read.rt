@@ -25,36 +25,22 @@ pub struct Contents {
     pub start: usize,
 }
 
-#[derive(Clone, Copy)]
-pub enum BundleRead {
-    Bundle(Contents),
-    Bad,
-}
-
 // Whether these two bytes stand at a place.
 fn is_marked(b: &[u8], x: u32, y: u32, at: usize) -> bool
     requires { at + 2 ≤ length b.now }
     ensures { result ≡ marked b.now x y at }
 {
-    if byte_at(b, at) != x {
-        return false;
-    }
-    if byte_at(b, at + 1) != y {
-        return false;
-    }
-    true
+    byte_at(b, at) == x && byte_at(b, at + 1) == y
 }
 
 // Whether a part or a symbol stands whole at a place.
+#[tactic(auto, unfolding(crate::specs::Answer::is_entry))]
 fn is_entry(b: &[u8], second: u32, bytes: usize, at: usize) -> bool
     requires at_in_bounds { at ≤ length b.now }
     requires le_bytes { 2 ≤ bytes }
     ensures { result ≡ is_entry b.now second bytes at }
 {
-    if b.len() - at < bytes {
-        return false;
-    }
-    is_marked(b, 0x53, second, at)
+    bytes <= b.len() - at && is_marked(b, 0x53, second, at)
 }
 
 // Whether the last record stands at a place, its bytes up to the bundle's end.
@@ -65,31 +51,27 @@ fn is_last(b: &[u8], at: usize) -> bool
     if b.len() - at < 10 {
         return false;
     }
-    let bytes = word_at(b, at + 6);
-    if place(bytes) != b.len() - at - 10 {
-        return false;
-    }
-    is_marked(b, 0x42, 0x54, at)
+    place(word_at(b, at + 6)) == b.len() - at - 10 && is_marked(b, 0x42, 0x54, at)
 }
 
 // What is read behind so many parts and symbols, where neither stands.
-fn last_record(b: &[u8], parts: usize, symbols: usize, at: usize) -> BundleRead
+#[tactic(auto, unfolding(crate::specs::Answer::last_answer))]
+fn last_record(b: &[u8], parts: usize, symbols: usize, at: usize) -> Option<Contents>
     requires { at ≤ length b.now }
     ensures { result ≡ last_answer b.now parts symbols at }
 {
     if !is_last(b, at) {
-        return BundleRead::Bad;
+        return None;
     }
-    let trees = word_at(b, at + 2);
-    BundleRead::Bundle(Contents {
-        trees: trees,
-        parts: parts,
-        symbols: symbols,
+    Some(Contents {
+        trees: word_at(b, at + 2),
+        parts,
+        symbols,
         start: at + 10,
     })
 }
 
-pub fn read_bundle(b: &[u8]) -> BundleRead
+pub fn read_bundle(b: &[u8]) -> Option<Contents>
     ensures { result ≡ read_answer b.now (bundle_at b.now) }
 {
     let mut parts: usize = 0;
@@ -97,15 +79,14 @@ pub fn read_bundle(b: &[u8]) -> BundleRead
     let mut at: usize = 0;
     while at < b.len() {
         if is_entry(b, PART, PART_BYTES, at) {
-            parts = parts + 1;
-            at = at + PART_BYTES;
-            continue;
-        }
-        if !is_entry(b, SYMBOL, SYMBOL_BYTES, at) {
+            parts += 1;
+            at += PART_BYTES;
+        } else if is_entry(b, SYMBOL, SYMBOL_BYTES, at) {
+            symbols += 1;
+            at += SYMBOL_BYTES;
+        } else {
             return last_record(b, parts, symbols, at);
         }
-        symbols = symbols + 1;
-        at = at + SYMBOL_BYTES;
     }
-    BundleRead::Bad
+    None
 }

@@ -5,16 +5,15 @@ ghost use Rattle.std.specs.Prelude.{◌≡◌};
 ghost use Rattle.format.specs.Bundle.{bundle_check, number_of};
 
 use bundle::check::check_bundle;
-use tree::refusal::Verdict;
 
 // The check's number, 0 for passed.
+#[tactic(auto, unfolding(tree::specs::Refusal::verdict_answer))]
 #[unsafe(no_mangle)]
 pub extern "C" fn tt_check_bundle(b: &[u8]) -> u32
     ensures { result ≡ number_of (bundle_check b.now) }
 {
-    let verdict = check_bundle(b);
-    match verdict {
-        Verdict::Passed => 0,
-        Verdict::Refused(refusal) => refusal.number,
+    match check_bundle(b) {
+        Ok(()) => 0,
+        Err(refusal) => refusal.number,
     }
 }

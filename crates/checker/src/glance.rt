@@ -1,14 +1,15 @@
 // One tree as the check sees it: its sort, where it ends, and a subtree's two counts.
-ghost use Rattle.std.specs.Prelude.{◌≡◌};
+ghost use Rattle.std.specs.Prelude.{◌≡◌, Ok};
 ghost use Rattle.format.specs.Reader.{got};
 ghost use Rattle.format.specs.Buffer.{raw_shape};
 ghost use Rattle.format.proofs.Sight.{sight};
 ghost use Rattle.tree.specs.Raw.{raw_of};
-ghost use Rattle.checker.specs.Glance.{glance, glance_at};
+ghost use Rattle.checker.specs.Glance.{glance, glance_at, next_of};
 
 use decode::judge::tree_in;
+use pack::row::Row;
 use tree::limits::Limits;
-use tree::raw::{ChildrenBytes, Descendants, RawAt, RawRead, RawTree};
+use tree::raw::{ChildrenBytes, Descendants, RawAt, RawTree};
 
 // What is known beside the bytes: the stated tree count, and how far indices reach.
 #[derive(Clone, Copy)]
@@ -30,38 +31,39 @@ pub enum Glance {
     // The place behind the leaf.
     Leaf(usize),
     Subtree(Opening),
-    // The refusal's number.
-    Bad(u32),
 }
 
-fn glance_of(here: RawAt) -> Glance
-    ensures { result ≡ glance (sight raw_shape (got (raw_of here.tree) here.next here.children.0)) }
-{
-    let tree = here.tree;
-    let kids = here.children;
-    match tree {
-        RawTree::Punct(_) => Glance::Leaf(here.next),
-        RawTree::Ident(_) => Glance::Leaf(here.next),
-        RawTree::Literal(_) => Glance::Leaf(here.next),
-        RawTree::Subtree(p) => {
-            let count = p.len;
-            Glance::Subtree(Opening {
-                count: count,
-                kids: kids,
-                next: here.next,
-            })
+impl Glance {
+    // The place behind the tree's own bytes.
+    pub(crate) fn next(self) -> usize
+        ensures { result ≡ next_of self }
+    {
+        match self {
+            Glance::Leaf(next) => next,
+            Glance::Subtree(o) => o.next,
         }
     }
 }
 
+#[tactic(auto, unfolding(crate::specs::Glance::glance, format::proofs::Sight::sight, tree::specs::Raw::raw_of))]
+fn glance_of(here: RawAt) -> Glance
+    ensures { Ok result ≡ glance (sight raw_shape (got (raw_of here.tree) here.next here.children.0)) }
+{
+    match here.tree {
+        RawTree::Subtree(p) => Glance::Subtree(Opening {
+            count: p.len,
+            kids: here.children,
+            next: here.next,
+        }),
+        _ => Glance::Leaf(here.next),
+    }
+}
+
 // Tree n at a place.
-pub(crate) fn glance_at(b: &[u8], sizes: Sizes, n: u32, at: usize) -> Glance
+#[tactic(auto, using(decode::proofs::ReadUse::reply_bad), unfolding(crate::specs::Glance::glance, format::proofs::Sight::sight))]
+pub(crate) fn glance_at(b: &[u8], sizes: Sizes, n: u32, at: usize) -> Result<Glance, Row>
     ensures { result ≡ glance_at b.now sizes n at }
 {
-    let limits = sizes.limits;
-    let read = tree_in(b, limits, n, at);
-    match read {
-        RawRead::Bad(number) => Glance::Bad(number),
-        RawRead::Got(here) => glance_of(here),
-    }
+    let here = tree_in(b, sizes.limits, n, at)?;
+    Ok(glance_of(here))
 }

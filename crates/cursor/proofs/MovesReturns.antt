@@ -10,23 +10,23 @@ use lib.ListN.{length, set, drop}
 use lib.Seq.{get_or-set_same, get_or-set_other}
 use native.Mathlib.Numerals.{add-one}
 use mathlib.Core.Logic.{◌≢◌}
+use Rattle.std.specs.Prelude.{Result, Err}
 use Rattle.format.specs.Cursor as calls
 use Rattle.format.specs.Cursor.{Open, CursorCall, cursor_step}
 use Rattle.format.specs.Width.{part_size}
 use Rattle.format.specs.Tables.{Mode, mode_tables, own_limits, own_mode}
 use Rattle.format.specs.Buffer.{word_shape, reader, own_reader}
-use Rattle.tree.specs.Mode.{limits_of, mode_of}
-use Rattle.tree.specs.declared.limits.Limits.{Limits}
-use Rattle.tree.proofs.OwnMode.{pair_of}
+use Rattle.tree.specs.Tables.{mode_in}
+use Rattle.tree.specs.declared.refusal.Refusal.{Refusal}
 use Rattle.format.specs.Loose.{loose_at, reported_shape, reported}
 use Rattle.walk.specs.Source.{sizes, report_reader_in}
-use Rattle.walk.proofs.SizesReturns.{sizes_trees, sizes_whole, sizes_mode}
+use Rattle.walk.specs.RowOne.{Silent, Speaks}
+use Rattle.walk.specs.declared.buffer.Buffer.{Buffer}
 use Rattle.cursor.specs.Open.{opened, cursor_of}
 use Rattle.cursor.specs.Plan.{answer_of, changed, May}
 use Rattle.cursor.specs.Moves.{at_of, written, state_of, Arrays, Moves, MovesIn, moved, stored, count_in, Applied}
 use Rattle.cursor.specs.declared.state.At.{At}
-use Rattle.cursor.specs.declared.plan.Answer.{Answer}
-use Rattle.cursor.specs.declared.plan.Answer.TheVariants as answers
+use Rattle.cursor.specs.declared.plan.Reply.{Reply}
 use Rattle.cursor.specs.declared.plan.Change.{Change}
 use Rattle.cursor.specs.declared.plan.Change.TheVariants as changes
 use Rattle.cursor.specs.declared.plan.Opening.{Opening}
@@ -150,7 +150,7 @@ next_is c ns cs ps changes.Shut m a = rw (opened_drop ns cs ps c.depth)
 
 -- ---- what a plan, carried out, leaves: the definition's cursor in its arrays
 
-module _ (b : List ℕ) (M : Mode) (k : ℕ) (call : CursorCall) (c : At) (ns cs ps : List ℕ) (answer : Answer) (c' : At) (ns' cs' ps' : List ℕ)
+module _ (b : List ℕ) (M : Mode) (k : ℕ) (call : CursorCall) (c : At) (ns cs ps : List ℕ) (answer : Result Reply Refusal) (c' : At) (ns' cs' ps' : List ℕ)
     (m : MovesIn b k M call c ns cs ps answer c' ns' cs' ps') where
   abbrev then : calls.Cursor
   then = (cursor_step word_shape (reader b k (mode_tables M)) call (cursor_of c ns cs ps)).1
@@ -189,7 +189,7 @@ module _ (b : List ℕ) (M : Mode) (k : ℕ) (call : CursorCall) (c : At) (ns cs
 
 -- ---- document 01's mode, behind row 1
 
-module _ (b parts symbols : List ℕ) (k : ℕ) (call : CursorCall) (c : At) (ns cs ps : List ℕ) (answer : Answer) (c' : At) (ns' cs' ps' : List ℕ) where
+module _ (b parts symbols : List ℕ) (k : ℕ) (call : CursorCall) (c : At) (ns cs ps : List ℕ) (answer : Result Reply Refusal) (c' : At) (ns' cs' ps' : List ℕ) where
   moves : MovesIn b k (own_mode parts symbols) call c ns cs ps answer c' ns' cs' ps' → Moves b k parts symbols call c ns cs ps answer c' ns' cs' ps'
   unfolding report_reader_in own_reader
   moves m =
@@ -205,28 +205,28 @@ module _ (b parts symbols : List ℕ) (k : ℕ) (call : CursorCall) (c : At) (ns
         next = moves_next b M k call c ns cs ps answer c' ns' cs' ps' m;
       }
 
-  pub moves_front : (s : Bool) → s ≡ sizes k parts symbols → not s ≡ false → (N : Limits) → limits_of N ≡ own_limits (length parts / part_size) (length symbols)
-      → MovesIn b k (mode_of N parts (pair_of N parts) symbols) call c ns cs ps answer c' ns' cs' ps' → Moves b k parts symbols call c ns cs ps answer c' ns' cs' ps'
-  moves_front s e h N d m = moves (subst (λ (M : Mode). MovesIn b k M call c ns cs ps answer c' ns' cs' ps') (sizes_mode k parts symbols s e h N d) m)
+  pub moves_front : (B : Buffer) → Silent b k parts symbols B → MovesIn B.bytes.now B.trees (mode_in B.tables) call c ns cs ps answer c' ns' cs' ps'
+      → Moves b k parts symbols call c ns cs ps answer c' ns' cs' ps'
+  moves_front B z m =
+      let e : (B.bytes.now, B.trees, mode_in B.tables) ≡ (b, k, own_mode parts symbols) = λ i. (z.bytes i, z.trees i, z.mode i) in
+      moves (subst (λ (x : List ℕ × ℕ × Mode). MovesIn x.0 x.1 x.2 call c ns cs ps answer c' ns' cs' ps') e m)
 
 -- row 1: nothing moves
-pub moves_1 : (b parts symbols : List ℕ) (k : ℕ) (call : CursorCall) (c : At) (ns cs ps : List ℕ) (s : Bool) → s ≡ sizes k parts symbols → not s ≡ true
-    → (answer : Answer) (c' : At) → answer ≡ answers.Refused (record { number = 1; tree = 0 }) → c' ≡ c → Moves b k parts symbols call c ns cs ps answer c' ns cs ps
+pub moves_1 : (b parts symbols : List ℕ) (k : ℕ) (call : CursorCall) (c : At) (ns cs ps : List ℕ) (r : Refusal) → Speaks k parts symbols r
+    → Moves b k parts symbols call c ns cs ps (Err r) c ns cs ps
 unfolding answer_of changed May moved stored count_in
-moves_1 b parts symbols k call c ns cs ps s e h answer c' q w =
-    rw (q, w)
-    (moves b parts symbols k call c ns cs ps (answers.Refused (record { number = 1; tree = 0 })) c ns cs ps
+moves_1 b parts symbols k call c ns cs ps r z =
+    let g = z.refusal in
+    moves b parts symbols k call c ns cs ps (Err r) c ns cs ps
     (record {
       change = changes.Stay;
-      planned = record { step = sizes_stop b k parts symbols s e h call (cursor_of c ns cs ps); may = tt };
+      planned = record { step = rw g (sizes_stop b k parts symbols z.sizes call (cursor_of c ns cs ps)); may = tt };
       applied = record { state = refl; numbers = refl; counts = refl; places = refl };
-    }))
-
-pub ruleset move_fronts = (sizes_trees, sizes_whole, moves_front, moves_1)
+    })
 
 -- a cursor by value, whose state was handed on
 
-pub value_is : (b parts symbols : List ℕ) (k : ℕ) (call : CursorCall) (c : Cursor) (a : At) → a ≡ at_of c → (r : Answer) (c' : At) (ns' cs' ps' : List ℕ)
+pub value_is : (b parts symbols : List ℕ) (k : ℕ) (call : CursorCall) (c : Cursor) (a : At) → a ≡ at_of c → (r : Result Reply Refusal) (c' : At) (ns' cs' ps' : List ℕ)
     → Moves b k parts symbols call a c.numbers c.counts c.places r c' ns' cs' ps'
     → Moves b k parts symbols call (at_of c) c.numbers c.counts c.places r c' ns' cs' ps'
 value_is b parts symbols k call c a q r c' ns' cs' ps' h = subst (λ (x : At). Moves b k parts symbols call x c.numbers c.counts c.places r c' ns' cs' ps') q h

@@ -7,6 +7,7 @@ use native.Mathlib.Omega.{arith}
 use borrow.Author.Tests.{le-leb, lt-leb, leb-true, eq-eqb, ne_eqb, not-true, not-false}
 use lib.Dec.{leb}
 use lib.ListN.{length, get_or, drop}
+use Rattle.std.specs.Prelude.{Result, Ok, Err}
 use Rattle.format.specs.Reader.{Reader, Reply, got, bad, refused}
 use Rattle.format.specs.Cursor.{Open, Cursor, CursorCall, bump, end, bump_or_end, closing, cursor_fits, bumped, go_on, shut, shut_last, drop_last, cursor_call, cursor_step, nested_in}
 use Rattle.format.specs.Tree.{tree_at}
@@ -17,37 +18,33 @@ use Rattle.format.proofs.Each.{and_left, and_right, true_false}
 use Rattle.pack.specs.Answer.{span_of}
 use Rattle.tree.specs.Loose.{loose_of}
 use Rattle.tree.specs.declared.loose.Loose as looses
-use Rattle.tree.specs.Raw.{raw_of, raw_answer}
+use Rattle.tree.specs.Raw.{RawAt, raw_of, raw_answer}
 use Rattle.tree.specs.Types.{punct_with, ident_with, literal_with, subtree_with, resolved}
 use Rattle.tree.specs.declared.raw.RawPunct.{RawPunct}
 use Rattle.tree.specs.declared.raw.RawIdent.{RawIdent}
 use Rattle.tree.specs.declared.raw.RawLiteral.{RawLiteral}
 use Rattle.tree.specs.declared.raw.RawSubtree.{RawSubtree}
-use Rattle.tree.specs.declared.raw.RawAt.{RawAt}
 use Rattle.tree.specs.declared.raw.RawTree.{RawTree}
 use Rattle.tree.specs.declared.raw.RawTree.TheVariants as raws
-use Rattle.tree.specs.declared.raw.RawRead.{RawRead}
-use Rattle.tree.specs.declared.raw.RawRead.TheVariants as raw_reads
 use Rattle.tree.specs.declared.types.TokenTree.{TokenTree}
 use Rattle.tree.specs.declared.types.TokenTree.TheVariants as trees
 use Rattle.tree.specs.declared.types.Leaf.{Leaf}
 use Rattle.tree.specs.declared.types.Subtree.{Subtree}
-use Rattle.tree.specs.Mode.{limits_of, mode_of, Whole}
-use Rattle.tree.specs.declared.limits.Limits.{Limits}
+use Rattle.tree.specs.Mode.{limits_of}
+use Rattle.tree.specs.Tables.{mode_in}
+use Rattle.tree.specs.declared.refusal.Refusal.{Refusal}
+use Rattle.tree.specs.declared.tables.Tables.{Tables}
 use Rattle.decode.specs.Judge.{limit_rules}
-use Rattle.decode.specs.Decode.{tree_answer, read_in}
-use Rattle.decode.specs.declared.decode.TreeAt.{TreeAt}
-use Rattle.decode.specs.declared.decode.TreeRead.{TreeRead}
-use Rattle.decode.specs.declared.decode.TreeRead.TheVariants as reads
-use Rattle.decode.proofs.DecodeUse.{decoded_got, decoded_refused, sized_got, sized_refused}
+use Rattle.decode.specs.Decode.{TreeAt, read_in}
+use Rattle.decode.proofs.DecodeUse.{sized_got, sized_refused}
 use Rattle.walk.specs.Source.{trees_sized, sizes, tree_shape, tree_reader_in, report_shape, report_reader_in}
-use Rattle.walk.proofs.SizesReturns.{mode_sized}
+use Rattle.walk.proofs.BufferReturns.{mode_sized}
 use Rattle.walk.proofs.WalkWords.{reads_decoded}
 use Rattle.walk.proofs.WalkReturns.{leaf_flat, subtree_holds}
 use Rattle.cursor.specs.Open.{opened, cursor_of, agreed, closes}
 use Rattle.cursor.specs.Plan.{answer_of, changed, plan_of, refusal, doing, May, cursor_at, Enters, GoesOn, Shuts, ShutsLast, Planned}
 use Rattle.cursor.specs.declared.state.At.{At}
-use Rattle.cursor.specs.declared.plan.Answer.TheVariants as answers
+use Rattle.cursor.specs.declared.plan.Reply.TheVariants as replies
 use Rattle.cursor.specs.declared.plan.Change.TheVariants as changes
 use Rattle.cursor.specs.declared.plan.Plan.{Plan}
 use Rattle.cursor.proofs.OpenReturns.{opened_length, opened_last}
@@ -143,10 +140,10 @@ module _ (b : List ℕ) (M : Mode) (k : ℕ) (c : At) (p : Plan) where
   unfolding answer_of changed May report_reader_in tree_reader_in
   go_end h q = record { step = λ os f. rw q (simp (le-leb _ _ h)); may = rw q tt }
 
-module _ (b parts pair symbols : List ℕ) (N : Limits) (w : Whole N parts pair symbols) (k : ℕ) (c : At) (p : Plan) (h : c.number < k) (r : RawRead)
-    (f : r ≡ raw_answer (judge (λ n t. t) (limit_rules (limits_of N)) c.number c.place (tree_at b c.place))) where
+module _ (b : List ℕ) (t : Tables) (k : ℕ) (c : At) (p : Plan) (h : c.number < k) (r : Result RawAt ℕ)
+    (f : r ≡ raw_answer (judge (λ n t. t) (limit_rules (limits_of t.limits)) c.number c.place (tree_at b c.place))) where
   abbrev M : Mode
-  M = mode_of N parts pair symbols
+  M = mode_in t
 
   before : leb (report_reader_in b k M).trees c.number ≡ false
   unfolding report_reader_in tree_reader_in
@@ -159,17 +156,17 @@ module _ (b parts pair symbols : List ℕ) (N : Limits) (w : Whole N parts pair 
       let d : (report_reader_in b k M).read c.number c.place ≡ z = reads_decoded b k M c.number c.place ∙ e in
       simp (g, d)
 
-  pub go_refused : (i : ℕ) → r ≡ raw_reads.Bad i → p ≡ refusal i c.number → GoesOn b k M c p
+  pub go_refused : (i : ℕ) → r ≡ Err i → p ≡ refusal i c.number → GoesOn b k M c p
   go_refused i g q =
-      let d = sized_refused b N parts pair symbols w c.number c.place r f i g in
+      let d = sized_refused b t.limits t.parts.now t.pair.now t.symbols.now t.whole c.number c.place r f i g in
       record {
         step = λ os e. refused_plan i c.number p (cursor_at c os) q ∙ sym (goes (bad i) (ap (beside (loose_at b c.place)) d) os);
         may = refused_may i c.number p c q;
       }
 
-  pub go_got : (y : RawAt) → r ≡ raw_reads.Got y → Enters c y p → GoesOn b k M c p
+  pub go_got : (y : RawAt) → r ≡ Ok y → Enters c y p → GoesOn b k M c p
   go_got y g n =
-      let d = sized_got b N parts pair symbols w c.number c.place r f y g in
+      let d = sized_got b t.limits t.parts.now t.pair.now t.symbols.now t.whole c.number c.place r f y g in
       record {
         step = λ os e.
             n.step (report_reader_in b k M) M c.number (loose_at b c.place) os e
@@ -197,7 +194,7 @@ module _ (y : TreeAt) (o : looses.Loose) (count : ℕ) where
           may = λ c h. refused_may 10 0 r c q;
         }
 
-    pub shut_same : p.len.0 ≡ count → (t : TokenTree) → t ≡ trees.Subtree p → Shuts y (loose_of o) count (record { answer = answers.Tree (record { tree = t; loose = o }); change = changes.Shut })
+    pub shut_same : p.len.0 ≡ count → (t : TokenTree) → t ≡ trees.Subtree p → Shuts y (loose_of o) count (record { answer = Ok (replies.Tree (record { tree = t; loose = o })); change = changes.Shut })
     unfolding answer_of changed May
     shut_same h t i =
         record {
@@ -207,8 +204,12 @@ module _ (y : TreeAt) (o : looses.Loose) (count : ℕ) where
           may = λ c h. h;
         }
 
-module _ (b : List ℕ) (M : Mode) (c : At) (ns cs ps : List ℕ) (h : 0 < c.depth) (p : Plan) (r : TreeRead)
-    (f : r ≡ tree_answer (read_in b M (get_or ns (c.depth - 1) 0) (get_or ps (c.depth - 1) 0))) where
+pub ruleset shut_cases = (shut_leaf, shut_other, shut_same)
+
+module _ (b : List ℕ) (M : Mode) (c : At) (ns cs ps : List ℕ) (h : 0 < c.depth) (p : Plan) where
+  abbrev here : Reply TokenTree
+  here = read_in b M (get_or ns (c.depth - 1) 0) (get_or ps (c.depth - 1) 0)
+
   abbrev report : Loose
   report = loose_at b (get_or ps (c.depth - 1) 0)
 
@@ -224,18 +225,18 @@ module _ (b : List ℕ) (M : Mode) (c : At) (ns cs ps : List ℕ) (h : 0 < c.dep
       ap (shut_last report_shape (report_reader_in b k M) (cursor_of c ns cs ps)) (opened_last ns cs ps c.depth h)
       ∙ ap (shut report_shape (report_reader_in b k M) (cursor_of c ns cs ps) last_open (opened ns cs ps (c.depth - 1))) d
 
-  pub last_refused : (i : ℕ) → r ≡ reads.Refused i → p ≡ refusal i (get_or ns (c.depth - 1) 0) → ShutsLast b M c ns cs ps p
-  last_refused i g q =
-      let d = decoded_refused (read_in b M (get_or ns (c.depth - 1) 0) (get_or ps (c.depth - 1) 0)) r f i g in
+  pub last_refused : (r : Refusal) → (here ≡ bad r.number) × (r.tree ≡ get_or ns (c.depth - 1) 0) → p ≡ refusal r.number r.tree → ShutsLast b M c ns cs ps p
+  last_refused r d q =
+      let e : p ≡ refusal r.number (get_or ns (c.depth - 1) 0) = q ∙ ap (refusal r.number) d.1 in
       record {
-        step = λ k. refused_plan i (get_or ns (c.depth - 1) 0) p (cursor_of c ns cs ps) q ∙ sym (lasts k (bad i) (ap (beside report) d));
-        may = refused_may i (get_or ns (c.depth - 1) 0) p c q;
+        step = λ k. refused_plan r.number (get_or ns (c.depth - 1) 0) p (cursor_of c ns cs ps) e ∙ sym (lasts k (bad r.number) (ap (beside report) d.0));
+        may = refused_may r.number (get_or ns (c.depth - 1) 0) p c e;
       }
 
-  pub last_got : (y : TreeAt) → r ≡ reads.Got y → (x : Loose) → x ≡ report → Shuts y x (get_or cs (c.depth - 1) 0) p → ShutsLast b M c ns cs ps p
+  pub last_got : (y : TreeAt) → here ≡ got y.tree y.next y.children.0 → (x : Loose) → x ≡ report → Shuts y x (get_or cs (c.depth - 1) 0) p → ShutsLast b M c ns cs ps p
   last_got y g x i m =
       let n : Shuts y report (get_or cs (c.depth - 1) 0) p = subst (λ (u : Loose). Shuts y u (get_or cs (c.depth - 1) 0) p) i m in
-      let d = ap (beside report) (decoded_got (read_in b M (get_or ns (c.depth - 1) 0) (get_or ps (c.depth - 1) 0)) r f y g) in
+      let d = ap (beside report) g in
       let o = opened_last ns cs ps c.depth h in
       record {
         step = λ k.
@@ -245,7 +246,7 @@ module _ (b : List ℕ) (M : Mode) (c : At) (ns cs ps : List ℕ) (h : 0 < c.dep
         may = n.may c h;
       }
 
-pub ruleset shut_cases = (shut_leaf, shut_other, shut_same, last_refused, last_got)
+pub ruleset last_cases = (last_refused, last_got)
 
 -- ---- row 10, and the calls
 
@@ -258,21 +259,21 @@ module _ (R : Reader (TokenTree × Loose)) (s : R.sized ≡ true) (c : Cursor) (
   unfolding cursor_step
   fit_calls f = simp (s, f)
 
-module _ (k bytes : ℕ) (c : At) (ns cs ps : List ℕ) (x : Bool) (e : x ≡ agreed k bytes (cursor_of c ns cs ps)) where
-  pub plan_few : not x ≡ false → c.depth ≤ 256
+module _ (k bytes : ℕ) (c : At) (ns cs ps : List ℕ) where
+  pub plan_few : agreed k bytes (cursor_of c ns cs ps) ≡ true → c.depth ≤ 256
   plan_few h =
       let os = opened ns cs ps c.depth in
       let n = nested_in c.number c.place c.number os in
-      let q = and_left (leb c.number k && leb c.place bytes && leb (length os) 256) n (sym e ∙ not-false x h) in
+      let q = and_left (leb c.number k && leb c.place bytes && leb (length os) 256) n h in
       let d = leb-true (length os) 256 (and_right (leb c.number k && leb c.place bytes) (leb (length os) 256) q) in
       let l = opened_length ns cs ps c.depth in
       omega arith
 
 -- row 1 of document 01's tables
-pub sizes_stop : (b : List ℕ) (k : ℕ) (parts symbols : List ℕ) (s : Bool) → s ≡ sizes k parts symbols → not s ≡ true → (call : CursorCall) (c : Cursor)
+pub sizes_stop : (b : List ℕ) (k : ℕ) (parts symbols : List ℕ) → sizes k parts symbols ≡ false → (call : CursorCall) (c : Cursor)
     → (refused 1 0, c) ≡ cursor_step report_shape (report_reader_in b k (own_mode parts symbols)) call c
 unfolding cursor_step report_reader_in tree_reader_in
-sizes_stop b k parts symbols s e h call c = let f : sizes k parts symbols ≡ false = sym e ∙ not-true s h in simp f
+sizes_stop b k parts symbols f call c = simp f
 
 drop_last_lem : (R : Reader (TokenTree × Loose)) (os : List Open) → drop 1 os ≡ drop_last report_shape R os
 drop_last_lem R [] = refl
@@ -283,76 +284,89 @@ unfolding opened closes
 closing_closes n ns cs ps zero = refl
 closing_closes n ns cs ps (suc d) = refl
 
-module _ (c : At) (ns cs : List ℕ) (x : Bool) (f : x ≡ closes c.number ns cs c.depth) where
-  closes_some : x ≡ true → 0 < c.depth
-  unfolding closes
-  closes_some g = go c.depth (sym f ∙ g)
-    where
-      go : (d : ℕ) → closes c.number ns cs d ≡ true → 0 < d
-      go zero i = true_false false i refl
-      go (suc d) i = omega arith
+pub closes_some : (c : At) (ns cs : List ℕ) → closes c.number ns cs c.depth ≡ true → 0 < c.depth
+unfolding closes
+closes_some c ns cs g = go c.depth g
+  where
+    go : (d : ℕ) → closes c.number ns cs d ≡ true → 0 < d
+    go zero i = true_false false i refl
+    go (suc d) i = omega arith
 
-  pub end_some : not x ≡ false → 0 < c.depth
-  end_some g = closes_some (not-false x g)
-
-module _ (b parts pair symbols : List ℕ) (N : Limits) (k : ℕ) (s : trees_sized k ≡ true) (c : At) (ns cs ps : List ℕ)
-    (z : Bool) (e : z ≡ agreed k (length b) (cursor_of c ns cs ps)) where
+module _ (b : List ℕ) (t : Tables) (k : ℕ) (s : trees_sized k ≡ true) (c : At) (ns cs ps : List ℕ) where
   abbrev own : Mode
-  own = mode_of N parts pair symbols
+  own = mode_in t
 
   abbrev R : Reader (TokenTree × Loose)
   R = report_reader_in b k own
 
-  pub plan_10 : not z ≡ true → (call : CursorCall) (p : Plan) → p ≡ refusal 10 0 → Planned b k own call c ns cs ps p
+  pub plan_10 : agreed k (length b) (cursor_of c ns cs ps) ≡ false → (call : CursorCall) (p : Plan) → p ≡ refusal 10 0 → Planned b k own call c ns cs ps p
   unfolding report_reader_in tree_reader_in
   plan_10 h call p q =
       record {
-        step = refused_plan 10 0 p (cursor_of c ns cs ps) q ∙ fit_stops R (mode_sized b k N parts pair symbols s) (cursor_of c ns cs ps) call (sym e ∙ not-true z h);
+        step = refused_plan 10 0 p (cursor_of c ns cs ps) q ∙ fit_stops R (mode_sized b k t s) (cursor_of c ns cs ps) call h;
         may = refused_may 10 0 p c q;
       }
 
-  module _ (h : not z ≡ false) where
+  module _ (h : agreed k (length b) (cursor_of c ns cs ps) ≡ true) where
     called : (call : CursorCall) → cursor_step report_shape R call (cursor_of c ns cs ps) ≡ cursor_call report_shape R call (cursor_of c ns cs ps)
     unfolding report_reader_in tree_reader_in
-    called call = fit_calls R (mode_sized b k N parts pair symbols s) (cursor_of c ns cs ps) call (sym e ∙ not-false z h)
+    called call = fit_calls R (mode_sized b k t s) (cursor_of c ns cs ps) call h
 
-    module _ (x : Bool) (f : x ≡ closes c.number ns cs c.depth) where
-      is_closing_lem : closing c.number (opened ns cs ps c.depth) ≡ x
-      is_closing_lem = closing_closes c.number ns cs ps c.depth ∙ sym f
+    refused_10 : (call : CursorCall) (p : Plan) → p ≡ refusal 10 0 → cursor_call report_shape R call (cursor_of c ns cs ps) ≡ (refused 10 0, cursor_of c ns cs ps)
+        → Planned b k own call c ns cs ps p
+    refused_10 call p q z = record { step = refused_plan 10 0 p (cursor_of c ns cs ps) q ∙ sym (called call ∙ z); may = refused_may 10 0 p c q }
 
-      refused_10 : (call : CursorCall) (p : Plan) → p ≡ refusal 10 0 → cursor_call report_shape R call (cursor_of c ns cs ps) ≡ (refused 10 0, cursor_of c ns cs ps)
-          → Planned b k own call c ns cs ps p
-      refused_10 call p q z = record { step = refused_plan 10 0 p (cursor_of c ns cs ps) q ∙ sym (called call ∙ z); may = refused_may 10 0 p c q }
+    goes_on_lem : (call : CursorCall) (p : Plan) → GoesOn b k own c p
+        → cursor_call report_shape R call (cursor_of c ns cs ps) ≡ go_on report_shape R (cursor_of c ns cs ps)
+        → Planned b k own call c ns cs ps p
+    goes_on_lem call p n z = record { step = n.step (opened ns cs ps c.depth) (opened_length ns cs ps c.depth) ∙ sym (called call ∙ z); may = n.may }
 
-      goes_on_lem : (call : CursorCall) (p : Plan) → GoesOn b k own c p
-          → cursor_call report_shape R call (cursor_of c ns cs ps) ≡ go_on report_shape R (cursor_of c ns cs ps)
-          → Planned b k own call c ns cs ps p
-      goes_on_lem call p n z = record { step = n.step (opened ns cs ps c.depth) (opened_length ns cs ps c.depth) ∙ sym (called call ∙ z); may = n.may }
+    module _ (g : closes c.number ns cs c.depth ≡ true) where
+      is_closing_lem : closing c.number (opened ns cs ps c.depth) ≡ true
+      is_closing_lem = closing_closes c.number ns cs ps c.depth ∙ g
 
-      pub bump_closing : x ≡ true → (p : Plan) → p ≡ refusal 10 0 → Planned b k own bump c ns cs ps p
-      bump_closing g p q = let z = is_closing_lem ∙ g in refused_10 bump p q (simp z)
+      pub bump_closing : (p : Plan) → p ≡ refusal 10 0 → Planned b k own bump c ns cs ps p
+      bump_closing p q = let z = is_closing_lem in refused_10 bump p q (simp z)
 
-      pub bump_on : x ≡ false → (p : Plan) → GoesOn b k own c p → Planned b k own bump c ns cs ps p
-      bump_on g p n = let z = is_closing_lem ∙ g in goes_on_lem bump p n (simp z)
-
-      pub either_on : x ≡ false → (p : Plan) → GoesOn b k own c p → Planned b k own bump_or_end c ns cs ps p
-      either_on g p n = let z = is_closing_lem ∙ g in goes_on_lem bump_or_end p n (simp z)
-
-      pub either_shut : x ≡ true → (p : Plan) → p ≡ doing changes.Shut → Planned b k own bump_or_end c ns cs ps p
+      pub either_shut : (p : Plan) → p ≡ doing changes.Shut → Planned b k own bump_or_end c ns cs ps p
       unfolding answer_of changed May
-      either_shut g p q =
-          let z = is_closing_lem ∙ g in
+      either_shut p q =
+          let z = is_closing_lem in
           let d = drop_last_lem R (opened ns cs ps c.depth) in
           let w : plan_of p (cursor_of c ns cs ps) ≡ cursor_call report_shape R bump_or_end (cursor_of c ns cs ps) = rw q (simp (z, d)) in
-          record { step = w ∙ sym (called bump_or_end); may = rw q (closes_some c ns cs x f g) }
+          record { step = w ∙ sym (called bump_or_end); may = rw q (closes_some c ns cs g) }
 
-      pub end_open : not x ≡ true → (p : Plan) → p ≡ refusal 10 0 → Planned b k own end c ns cs ps p
-      end_open g p q = let z = is_closing_lem ∙ not-true x g in refused_10 end p q (simp z)
-
-      pub end_shut : not x ≡ false → (p : Plan) → ShutsLast b own c ns cs ps p → Planned b k own end c ns cs ps p
-      end_shut g p n =
-          let z = is_closing_lem ∙ not-false x g in
+      pub end_shut : (p : Plan) → ShutsLast b own c ns cs ps p → Planned b k own end c ns cs ps p
+      end_shut p n =
+          let z = is_closing_lem in
           let w : cursor_call report_shape R end (cursor_of c ns cs ps) ≡ shut_last report_shape R (cursor_of c ns cs ps) (opened ns cs ps c.depth) = simp z in
           record { step = n.step k ∙ sym (called end ∙ w); may = n.may }
 
-pub ruleset plan_cases = (plan_10, plan_few, bump_closing, bump_on, either_on, either_shut, end_open, end_some, end_shut)
+    module _ (g : closes c.number ns cs c.depth ≡ false) where
+      not_closing : closing c.number (opened ns cs ps c.depth) ≡ false
+      not_closing = closing_closes c.number ns cs ps c.depth ∙ g
+
+      pub bump_on : (p : Plan) → GoesOn b k own c p → Planned b k own bump c ns cs ps p
+      bump_on p n = let z = not_closing in goes_on_lem bump p n (simp z)
+
+      pub either_on : (p : Plan) → GoesOn b k own c p → Planned b k own bump_or_end c ns cs ps p
+      either_on p n = let z = not_closing in goes_on_lem bump_or_end p n (simp z)
+
+      pub end_open : (p : Plan) → p ≡ refusal 10 0 → Planned b k own end c ns cs ps p
+      end_open p q = let z = not_closing in refused_10 end p q (simp z)
+
+-- what a test that was made says of what it stands for
+module _ (x z : Bool) (e : x ≡ z) where
+  pub fails_so : not x ≡ true → z ≡ false
+  fails_so h = sym e ∙ not-true x h
+
+  pub holds_so : not x ≡ false → z ≡ true
+  holds_so h = sym e ∙ not-false x h
+
+  pub true_so : x ≡ true → z ≡ true
+  true_so h = sym e ∙ h
+
+  pub false_so : x ≡ false → z ≡ false
+  false_so h = sym e ∙ h
+
+pub ruleset plan_cases = (fails_so, holds_so, true_so, false_so, plan_10, plan_few, closes_some, bump_closing, bump_on, either_on, either_shut, end_open, end_shut)

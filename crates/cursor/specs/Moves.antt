@@ -1,15 +1,16 @@
 -- What a call that moves the cursor promises, by value and over lent arrays alike.
-use Rattle.std.specs.Prelude.{ℕ, ◌+◌, ◌-◌, ◌≡◌, List, [], ◌∷◌, eqb, length, set, replicate, if◌then◌else◌}
+use Rattle.std.specs.Prelude.{ℕ, ◌+◌, ◌-◌, ◌≡◌, List, [], ◌∷◌, eqb, length, set, replicate, Result, if◌then◌else◌}
 use Rattle.format.specs.Cursor as calls
 use Rattle.format.specs.Cursor.{Open, CursorCall, cursor_step}
 use Rattle.format.specs.Tables.{Mode}
 use Rattle.format.specs.Buffer.{word_shape, own_reader}
 use Rattle.format.specs.Loose.{loose_at, reported_shape, reported}
+use Rattle.tree.specs.declared.refusal.Refusal.{Refusal}
 use Rattle.walk.specs.Source.{tree_reader, report_shape, answer_words, answer_report}
 use Rattle.cursor.specs.Open.{cursor_of}
 use Rattle.cursor.specs.Plan.{answer_of, Planned}
 use Rattle.cursor.specs.declared.state.At.{At}
-use Rattle.cursor.specs.declared.plan.Answer.{Answer}
+use Rattle.cursor.specs.declared.plan.Reply.{Reply}
 use Rattle.cursor.specs.declared.plan.Change.{Change}
 use Rattle.cursor.specs.declared.plan.Change.TheVariants.{Stay, On, Open as Opens, Shut}
 use Rattle.cursor.specs.declared.cursor.Cursor.{Cursor}
@@ -48,7 +49,7 @@ pub record Arrays (ns cs ps : List ℕ) : Type 0 where
 -- the answer: the one tree that the tables give, with its report; by list words what the definitions' reader reads, without and with reports; the next state
 -- and all of the arrays
 pub record Moves (b : List ℕ) (k : ℕ) (parts symbols : List ℕ) (call : CursorCall) (c : At) (ns cs ps : List ℕ)
-    (answer : Answer) (c' : At) (ns' cs' ps' : List ℕ) : Type 0 where
+    (answer : Result Reply Refusal) (c' : At) (ns' cs' ps' : List ℕ) : Type 0 where
   pub exact : answer_of answer ≡ (cursor_step report_shape (reported (loose_at b) (tree_reader b k parts symbols)) call (cursor_of c ns cs ps)).0
   pub words : answer_words (answer_of answer) ≡ (cursor_step word_shape (own_reader b k parts symbols) call (cursor_of c ns cs ps)).0
   pub reports : answer_report (answer_of answer) ≡ (cursor_step (reported_shape word_shape) (reported (loose_at b) (own_reader b k parts symbols)) call (cursor_of c ns cs ps)).0
@@ -93,7 +94,7 @@ pub record Applied (c : At) (change : Change) (ns cs ps : List ℕ) (c' : At) (n
 
 -- a call over the tables of a mode: a plan, carried out
 pub record MovesIn (b : List ℕ) (k : ℕ) (M : Mode) (call : CursorCall) (c : At) (ns cs ps : List ℕ)
-    (answer : Answer) (c' : At) (ns' cs' ps' : List ℕ) : Type 0 where
+    (answer : Result Reply Refusal) (c' : At) (ns' cs' ps' : List ℕ) : Type 0 where
   pub change : Change
   pub planned : Planned b k M call c ns cs ps (record { answer = answer; change = change })
   pub applied : Applied c change ns cs ps c' ns' cs' ps'

@@ -1,31 +1,31 @@
 -- What a call answers, in document 01's numbers and values, and how it changes the cursor.
-use Rattle.std.specs.Prelude.{ℕ, ◌+◌, ◌<◌, ◌≡◌, List, ◌∷◌, length, drop}
+use Rattle.std.specs.Prelude.{ℕ, ◌+◌, ◌<◌, ◌≡◌, List, ◌∷◌, length, drop, Result, Ok, Err}
 use Rattle.format.specs.Reader as format
 use Rattle.format.specs.Cursor as calls
 use Rattle.format.specs.Cursor.{Open, Cursor, CursorCall}
 use Rattle.format.specs.Tables.{Mode}
 use Rattle.format.specs.Loose.{Loose}
 use Rattle.tree.specs.Loose.{reported_of}
-use Rattle.tree.specs.Raw.{raw_of}
+use Rattle.tree.specs.Raw.{RawAt, raw_of}
 use Rattle.tree.specs.Types.{resolved}
-use Rattle.tree.specs.declared.raw.RawAt.{RawAt}
+use Rattle.tree.specs.declared.refusal.Refusal.{Refusal}
 use Rattle.tree.specs.declared.types.TokenTree.{TokenTree}
-use Rattle.decode.specs.declared.decode.TreeAt.{TreeAt}
+use Rattle.decode.specs.Decode.{TreeAt}
 use Rattle.walk.specs.Source.{report_shape, report_reader_in}
 use Rattle.cursor.specs.Open.{opened, cursor_of}
 use Rattle.cursor.specs.declared.state.At.{At}
-use Rattle.cursor.specs.declared.plan.Answer.{Answer}
-use Rattle.cursor.specs.declared.plan.Answer.TheVariants.{Done, None, Tree, Refused}
+use Rattle.cursor.specs.declared.plan.Reply.{Reply}
+use Rattle.cursor.specs.declared.plan.Reply.TheVariants.{Done, None, Tree}
 use Rattle.cursor.specs.declared.plan.Change.{Change}
 use Rattle.cursor.specs.declared.plan.Change.TheVariants as changes
 use Rattle.cursor.specs.declared.plan.Plan.{Plan}
 
 -- "A refusal gives its number and a tree number"
-unfoldable pub answer_of : Answer → format.Answer (TokenTree × Loose)
-answer_of Done = format.done
-answer_of None = format.none
-answer_of (Tree t) = format.one (reported_of t)
-answer_of (Refused r) = format.refused r.number r.tree
+unfoldable pub answer_of : Result Reply Refusal → format.Answer (TokenTree × Loose)
+answer_of (Ok Done) = format.done
+answer_of (Ok None) = format.none
+answer_of (Ok (Tree t)) = format.one (reported_of t)
+answer_of (Err r) = format.refused r.number r.tree
 
 -- "tree n is opened if a subtree, and n grows by 1"; "Shutting keeps n and the place"
 unfoldable pub changed : Change → Cursor → Cursor
@@ -43,10 +43,10 @@ abbrev pub plan_of : Plan → Cursor → format.Answer (TokenTree × Loose) × C
 plan_of p c = (answer_of p.answer, changed p.change c)
 
 abbrev pub refusal : ℕ → ℕ → Plan
-refusal r n = record { answer = Refused (record { number = r; tree = n }); change = changes.Stay }
+refusal r n = record { answer = Err (record { number = r; tree = n }); change = changes.Stay }
 
 abbrev pub doing : Change → Plan
-doing change = record { answer = Done; change = change }
+doing change = record { answer = Ok Done; change = change }
 
 -- the change fits into the numbers and the arrays
 unfoldable pub May : At → Change → Type 0

@@ -1,8 +1,9 @@
 -- Lists of cursor calls: what the functions hand back, by their contracts alone.
-use Rattle.std.specs.Prelude.{ℕ, ◌≡◌, List, [], ◌∷◌}
+use Rattle.std.specs.Prelude.{ℕ, ◌≡◌, List, [], ◌∷◌, Option, Result}
 use Rattle.format.specs.Reader as format
 use Rattle.format.specs.Cursor as calls
 use Rattle.format.specs.Cursor.{CursorCall, bump, end, bump_or_end, token_tree, peek_two_leaves}
+use Rattle.tree.specs.declared.refusal.Refusal.{Refusal}
 use Rattle.tree.specs.declared.types.TokenTree.{TokenTree}
 use Rattle.format.specs.Loose.{Loose}
 use Rattle.walk.specs.Source.{answer_words, answer_report}
@@ -11,8 +12,8 @@ use Rattle.cursor.specs.Plan.{answer_of}
 use Rattle.cursor.specs.Moves.{at_of, Moves}
 use Rattle.cursor.specs.Look.{Tells, peek_of, Peeks}
 use Rattle.cursor.specs.declared.state.At.{At}
-use Rattle.cursor.specs.declared.plan.Answer.{Answer}
-use Rattle.cursor.specs.declared.look.TwoLeaves.{TwoLeaves}
+use Rattle.cursor.specs.declared.plan.Reply.{Reply}
+use Rattle.cursor.specs.declared.look.Ahead.{Ahead}
 use Rattle.cursor.specs.declared.cursor.Cursor.{Cursor}
 
 -- a cursor, by value or over lent arrays
@@ -31,19 +32,19 @@ held_as h = cursor_of h.at h.numbers h.counts h.places
 module _ (b : List ℕ) (k : ℕ) (parts symbols : List ℕ) where
   -- a call that moves: an answer and the next cursor
   pub record MovedOn (call : CursorCall) (h : Held) (a : format.Answer (TokenTree × Loose)) (h' : Held) : Type 0 where
-    pub answer : Answer
+    pub answer : Result Reply Refusal
     pub said : a ≡ answer_of answer
     pub moves : Moves b k parts symbols call h.at h.numbers h.counts h.places answer h'.at h'.numbers h'.counts h'.places
 
   -- the two that look: the cursor stays
   pub record Told (h : Held) (a : format.Answer (TokenTree × Loose)) (h' : Held) : Type 0 where
-    pub answer : Answer
+    pub answer : Result Reply Refusal
     pub said : a ≡ answer_of answer
     pub tells : Tells b k parts symbols h.at h.numbers h.counts h.places answer
     pub stays : h' ≡ h
 
   pub record Peeked (h : Held) (a : format.Answer (TokenTree × Loose)) (h' : Held) : Type 0 where
-    pub leaves : TwoLeaves
+    pub leaves : Result (Option (List Ahead)) Refusal
     pub said : a ≡ peek_of leaves
     pub peeks : Peeks b k parts symbols h.at h.numbers h.counts h.places leaves
     pub stays : h' ≡ h

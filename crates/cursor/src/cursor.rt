@@ -5,10 +5,11 @@ ghost use Rattle.format.specs.Cursor.{bump, end, bump_or_end};
 ghost use Rattle.cursor.specs.Look.{TellsOf, PeeksOf};
 ghost use Rattle.cursor.specs.Moves.{at_of, fresh_cursor, Stepped};
 
-use crate::lent::{bump, bump_or_end, end};
-use crate::look::{TwoLeaves, peek_two_leaves, token_tree};
-use crate::plan::Answer;
+use crate::lent::{Moved, bump, bump_or_end, end};
+use crate::look::{Ahead, peek_two_leaves, token_tree};
+use crate::plan::Reply;
 use crate::state::At;
+use tree::refusal::Refusal;
 
 // The entries below `depth` are the open subtrees.
 #[derive(Clone, Copy)]
@@ -24,7 +25,7 @@ pub struct Cursor {
 // What a call answers, and the next cursor.
 #[derive(Clone, Copy)]
 pub struct Next {
-    pub answer: Answer,
+    pub answer: Result<Reply, Refusal>,
     pub cursor: Cursor,
 }
 
@@ -32,15 +33,13 @@ pub struct Next {
 pub fn fresh() -> Cursor
     ensures { result ≡ fresh_cursor }
 {
-    let none = [0u32; 256];
-    let nowhere = [0usize; 256];
     Cursor {
         place: 0,
         number: 0,
         depth: 0,
-        numbers: none,
-        counts: none,
-        places: nowhere,
+        numbers: [0; 256],
+        counts: [0; 256],
+        places: [0; 256],
     }
 }
 
@@ -55,12 +54,34 @@ impl Cursor {
         }
     }
 
-    pub fn bump(self, b: &[u8], trees: u32, parts: &[u32], symbols: &[u32]) -> Next
+    // At where a call has moved to.
+    fn moved(self, moved: Moved) -> Next
+        ensures { result ≡ record {
+          answer = moved.answer;
+          cursor = record {
+            place = moved.at.place;
+            number = moved.at.number;
+            depth = moved.at.depth;
+            numbers = self.numbers;
+            counts = self.counts;
+            places = self.places;
+          };
+        } }
+    {
+        Next {
+            answer: moved.answer,
+            cursor: Cursor {
+                place: moved.at.place,
+                number: moved.at.number,
+                depth: moved.at.depth,
+                ..self
+            },
+        }
+    }
+
+    pub fn bump(mut self, b: &[u8], trees: u32, parts: &[u32], symbols: &[u32]) -> Next
         ensures { Stepped b.now trees parts.now symbols.now bump self result }
     {
-        let mut numbers = self.numbers;
-        let mut counts = self.counts;
-        let mut places = self.places;
         let at = self.at();
         let moved = bump(
             b,
@@ -68,32 +89,16 @@ impl Cursor {
             parts,
             symbols,
             at,
-            &mut numbers,
-            &mut counts,
-            &mut places,
+            &mut self.numbers,
+            &mut self.counts,
+            &mut self.places,
         );
-        let answer = moved.answer;
-        let then = moved.at;
-        let next = Cursor {
-            place: then.place,
-            number: then.number,
-            depth: then.depth,
-            numbers: numbers,
-            counts: counts,
-            places: places,
-        };
-        Next {
-            answer: answer,
-            cursor: next,
-        }
+        self.moved(moved)
     }
 
-    pub fn end(self, b: &[u8], trees: u32, parts: &[u32], symbols: &[u32]) -> Next
+    pub fn end(mut self, b: &[u8], trees: u32, parts: &[u32], symbols: &[u32]) -> Next
         ensures { Stepped b.now trees parts.now symbols.now end self result }
     {
-        let mut numbers = self.numbers;
-        let mut counts = self.counts;
-        let mut places = self.places;
         let at = self.at();
         let moved = end(
             b,
@@ -101,33 +106,16 @@ impl Cursor {
             parts,
             symbols,
             at,
-            &mut numbers,
-            &mut counts,
-            &mut places,
+            &mut self.numbers,
+            &mut self.counts,
+            &mut self.places,
         );
-        let answer = moved.answer;
-        let then = moved.at;
-        let next = Cursor {
-            place: then.place,
-            number: then.number,
-            depth: then.depth,
-            numbers: numbers,
-            counts: counts,
-            places: places,
-        };
-        Next {
-            answer: answer,
-            cursor: next,
-        }
+        self.moved(moved)
     }
 
-    pub fn bump_or_end(self, b: &[u8], trees: u32, parts: &[u32], symbols: &[u32]) -> Next
-        ensures { Stepped b.now trees parts.now symbols.now bump_or_end self
-            result }
+    pub fn bump_or_end(mut self, b: &[u8], trees: u32, parts: &[u32], symbols: &[u32]) -> Next
+        ensures { Stepped b.now trees parts.now symbols.now bump_or_end self result }
     {
-        let mut numbers = self.numbers;
-        let mut counts = self.counts;
-        let mut places = self.places;
         let at = self.at();
         let moved = bump_or_end(
             b,
@@ -135,27 +123,20 @@ impl Cursor {
             parts,
             symbols,
             at,
-            &mut numbers,
-            &mut counts,
-            &mut places,
+            &mut self.numbers,
+            &mut self.counts,
+            &mut self.places,
         );
-        let answer = moved.answer;
-        let then = moved.at;
-        let next = Cursor {
-            place: then.place,
-            number: then.number,
-            depth: then.depth,
-            numbers: numbers,
-            counts: counts,
-            places: places,
-        };
-        Next {
-            answer: answer,
-            cursor: next,
-        }
+        self.moved(moved)
     }
 
-    pub fn token_tree(self, b: &[u8], trees: u32, parts: &[u32], symbols: &[u32]) -> Answer
+    pub fn token_tree(
+        self,
+        b: &[u8],
+        trees: u32,
+        parts: &[u32],
+        symbols: &[u32],
+    ) -> Result<Reply, Refusal>
         ensures { TellsOf b.now trees parts.now symbols.now self result }
     {
         token_tree(
@@ -170,7 +151,13 @@ impl Cursor {
         )
     }
 
-    pub fn peek_two_leaves(self, b: &[u8], trees: u32, parts: &[u32], symbols: &[u32]) -> TwoLeaves
+    pub fn peek_two_leaves(
+        self,
+        b: &[u8],
+        trees: u32,
+        parts: &[u32],
+        symbols: &[u32],
+    ) -> Result<Option<[Ahead; 2]>, Refusal>
         ensures { PeeksOf b.now trees parts.now symbols.now self result }
     {
         peek_two_leaves(

@@ -1,27 +1,25 @@
 // The calls over a small state and three lent arrays, for callers that cannot pay two copies of a whole cursor a call.
-ghost use Rattle.std.specs.Prelude.{◌≡◌, true, ◌+◌, ◌<◌};
+ghost use Rattle.std.specs.Prelude.{◌≡◌, ◌+◌, ◌<◌};
 ghost use Rattle.format.specs.Cursor.{bump, end, bump_or_end};
-ghost use Rattle.tree.specs.Mode.{mode_of, Whole};
-ghost use Rattle.walk.specs.Source.{trees_sized};
+ghost use Rattle.tree.specs.Tables.{mode_in};
 ghost use Rattle.cursor.specs.Plan.{May};
-ghost use Rattle.cursor.specs.declared.plan.Answer.TheVariants as answers;
 ghost use Rattle.cursor.specs.declared.plan.Change.TheVariants as changes;
 ghost use Rattle.cursor.specs.Moves.{Applied, Moves, MovesIn};
 
-use crate::plan::{Answer, Change, Opening, plan_bump, plan_bump_or_end, plan_end};
+use crate::plan::{Change, Opening, Reply, plan_bump, plan_bump_or_end, plan_end};
 use crate::state::At;
-use tree::limits::{Limits, own_limits};
 use tree::refusal::Refusal;
-use walk::sizes::sized;
-use width::PART_WORDS;
+use walk::buffer::Buffer;
+use walk::sizes::own_buffer;
 
 #[derive(Clone, Copy)]
 pub struct Moved {
-    pub answer: Answer,
+    pub answer: Result<Reply, Refusal>,
     pub at: At,
 }
 
 // An opening writes the one entry behind the open subtrees, and nothing else is written.
+#[tactic(auto, using(crate::proofs::MovesReturns::apply_cases))]
 fn enter(
     at: At,
     opening: Opening,
@@ -35,9 +33,8 @@ fn enter(
         result numbers.new counts.new places.new }
 {
     let depth = at.depth;
-    let count = opening.count;
     numbers[depth] = at.number;
-    counts[depth] = count.0;
+    counts[depth] = opening.count.0;
     places[depth] = at.place;
     At {
         place: opening.next,
@@ -46,6 +43,7 @@ fn enter(
     }
 }
 
+#[tactic(auto, using(crate::proofs::MovesReturns::apply_cases))]
 fn apply(
     at: At,
     change: Change,
@@ -74,111 +72,63 @@ fn apply(
     }
 }
 
-// ---- over the tables of a mode: row 1 was asked by whoever knows it
+// ---- behind row 1
 
 pub fn bump_in(
-    b: &[u8],
-    trees: u32,
-    limits: Limits,
-    parts: &[u32],
-    pair: &[u32],
-    symbols: &[u32],
+    buffer: &Buffer,
     at: At,
     numbers: &mut [u32; 256],
     counts: &mut [u32; 256],
     places: &mut [usize; 256],
 ) -> Moved
-    requires whole { Whole limits parts.now pair.now symbols.now }
-    requires trees_value { trees_sized trees ≡ true }
-    ensures { MovesIn b.now trees
-        (mode_of limits parts.now pair.now symbols.now) bump
+    ensures { MovesIn buffer.now.bytes.now buffer.now.trees (mode_in buffer.now.tables) bump
         at numbers.old counts.old places.old
         result.answer result.at numbers.new counts.new places.new }
 {
-    let plan = plan_bump(
-        b, trees, limits, parts, pair, symbols, at, numbers, counts, places,
-    );
-    let answer = plan.answer;
-    let change = plan.change;
-    let next = apply(at, change, numbers, counts, places);
+    let plan = plan_bump(buffer, at, numbers, counts, places);
     Moved {
-        answer: answer,
-        at: next,
+        answer: plan.answer,
+        at: apply(at, plan.change, numbers, counts, places),
     }
 }
 
 pub fn end_in(
-    b: &[u8],
-    trees: u32,
-    limits: Limits,
-    parts: &[u32],
-    pair: &[u32],
-    symbols: &[u32],
+    buffer: &Buffer,
     at: At,
     numbers: &mut [u32; 256],
     counts: &mut [u32; 256],
     places: &mut [usize; 256],
 ) -> Moved
-    requires whole { Whole limits parts.now pair.now symbols.now }
-    requires trees_value { trees_sized trees ≡ true }
-    ensures { MovesIn b.now trees
-        (mode_of limits parts.now pair.now symbols.now) end
+    ensures { MovesIn buffer.now.bytes.now buffer.now.trees (mode_in buffer.now.tables) end
         at numbers.old counts.old places.old
         result.answer result.at numbers.new counts.new places.new }
 {
-    let plan = plan_end(
-        b, trees, limits, parts, pair, symbols, at, numbers, counts, places,
-    );
-    let answer = plan.answer;
-    let change = plan.change;
-    let next = apply(at, change, numbers, counts, places);
+    let plan = plan_end(buffer, at, numbers, counts, places);
     Moved {
-        answer: answer,
-        at: next,
+        answer: plan.answer,
+        at: apply(at, plan.change, numbers, counts, places),
     }
 }
 
 pub fn bump_or_end_in(
-    b: &[u8],
-    trees: u32,
-    limits: Limits,
-    parts: &[u32],
-    pair: &[u32],
-    symbols: &[u32],
+    buffer: &Buffer,
     at: At,
     numbers: &mut [u32; 256],
     counts: &mut [u32; 256],
     places: &mut [usize; 256],
 ) -> Moved
-    requires whole { Whole limits parts.now pair.now symbols.now }
-    requires trees_value { trees_sized trees ≡ true }
-    ensures { MovesIn b.now trees
-        (mode_of limits parts.now pair.now symbols.now) bump_or_end
+    ensures { MovesIn buffer.now.bytes.now buffer.now.trees (mode_in buffer.now.tables) bump_or_end
         at numbers.old counts.old places.old
         result.answer result.at numbers.new counts.new places.new }
 {
-    let plan = plan_bump_or_end(
-        b, trees, limits, parts, pair, symbols, at, numbers, counts, places,
-    );
-    let answer = plan.answer;
-    let change = plan.change;
-    let next = apply(at, change, numbers, counts, places);
+    let plan = plan_bump_or_end(buffer, at, numbers, counts, places);
     Moved {
-        answer: answer,
-        at: next,
+        answer: plan.answer,
+        at: apply(at, plan.change, numbers, counts, places),
     }
 }
 
 // ---- over a part table whose last two are the root's, row 1 first
-
-fn not_sized(at: At) -> Moved
-    ensures { (result.answer ≡ answers.Refused (record { number = 1; tree = 0 })) × (result.at ≡ at) }
-{
-    Moved {
-        answer: Answer::Refused(Refusal { number: 1, tree: 0 }),
-        at: at,
-    }
-}
 
 pub fn bump(
     b: &[u8],
@@ -194,14 +144,13 @@ pub fn bump(
         at numbers.old counts.old places.old
         result.answer result.at numbers.new counts.new places.new }
 {
-    if !sized(trees, parts, symbols) {
-        return not_sized(at);
+    match own_buffer(b, trees, parts, symbols) {
+        Ok(buffer) => bump_in(&buffer, at, numbers, counts, places),
+        Err(refusal) => Moved {
+            answer: Err(refusal),
+            at,
+        },
     }
-    let limits = own_limits(parts.len() / PART_WORDS, symbols.len());
-    let pair = &parts[PART_WORDS * limits.limit..];
-    bump_in(
-        b, trees, limits, parts, pair, symbols, at, numbers, counts, places,
-    )
 }
 
 pub fn end(
@@ -218,14 +167,13 @@ pub fn end(
         at numbers.old counts.old places.old
         result.answer result.at numbers.new counts.new places.new }
 {
-    if !sized(trees, parts, symbols) {
-        return not_sized(at);
+    match own_buffer(b, trees, parts, symbols) {
+        Ok(buffer) => end_in(&buffer, at, numbers, counts, places),
+        Err(refusal) => Moved {
+            answer: Err(refusal),
+            at,
+        },
     }
-    let limits = own_limits(parts.len() / PART_WORDS, symbols.len());
-    let pair = &parts[PART_WORDS * limits.limit..];
-    end_in(
-        b, trees, limits, parts, pair, symbols, at, numbers, counts, places,
-    )
 }
 
 pub fn bump_or_end(
@@ -242,12 +190,11 @@ pub fn bump_or_end(
         at numbers.old counts.old places.old
         result.answer result.at numbers.new counts.new places.new }
 {
-    if !sized(trees, parts, symbols) {
-        return not_sized(at);
+    match own_buffer(b, trees, parts, symbols) {
+        Ok(buffer) => bump_or_end_in(&buffer, at, numbers, counts, places),
+        Err(refusal) => Moved {
+            answer: Err(refusal),
+            at,
+        },
     }
-    let limits = own_limits(parts.len() / PART_WORDS, symbols.len());
-    let pair = &parts[PART_WORDS * limits.limit..];
-    bump_or_end_in(
-        b, trees, limits, parts, pair, symbols, at, numbers, counts, places,
-    )
 }

@@ -1,21 +1,19 @@
 // The calls that look and change nothing, over a small state and three lent arrays.
-ghost use Rattle.std.specs.Prelude.{◌≡◌, true, ◌+◌, ◌<◌};
-ghost use Rattle.tree.specs.Mode.{mode_of, Whole};
-ghost use Rattle.walk.specs.Source.{trees_sized};
-ghost use Rattle.cursor.specs.declared.plan.Answer.TheVariants as answers;
-ghost use Rattle.cursor.specs.Look.{blank_leaf, no_leaves, Here, Second, First, Tells, TellsIn, Peeks, PeeksIn};
+ghost use Rattle.std.specs.Prelude.{◌≡◌, ◌+◌, ◌<◌};
+ghost use Rattle.tree.specs.Tables.{mode_in};
+ghost use Rattle.cursor.specs.Look.{Here, Second, First, Tells, TellsIn, Peeks, PeeksIn};
 
 use crate::open::{agrees, lies_inside};
-use crate::plan::Answer;
+use crate::plan::Reply;
 use crate::state::At;
-use decode::decode::{TreeRead, decode_in};
 use decode::loose::loose_at;
-use tree::limits::{Limits, own_limits};
+use pack::row;
 use tree::loose::{Loose, ReportedTree};
 use tree::refusal::Refusal;
-use tree::types::{Leaf, Punct, Spacing, Span, TokenTree};
-use walk::sizes::sized;
-use width::PART_WORDS;
+use tree::types::{Leaf, TokenTree};
+use walk::buffer::Buffer;
+use walk::read::read_tree;
+use walk::sizes::own_buffer;
 
 // A leaf ahead of the cursor, and its report.
 #[derive(Clone, Copy)]
@@ -24,252 +22,138 @@ pub struct Ahead {
     pub loose: Loose,
 }
 
-// The nearer leaf first. Where two were not found the leaves are blank, and `otherwise` says why.
-#[derive(Clone, Copy)]
-pub struct TwoLeaves {
-    pub found: bool,
-    pub leaves: [Ahead; 2],
-    pub otherwise: Answer,
-}
-
-fn refused(number: u32, tree: u32) -> Answer
-    ensures { result ≡ answers.Refused (record { number = number; tree = tree }) }
-{
-    Answer::Refused(Refusal {
-        number: number,
-        tree: tree,
-    })
-}
-
 // The tree that the cursor stands at.
-fn tree_here(
-    b: &[u8],
-    limits: Limits,
-    parts: &[u32],
-    pair: &[u32],
-    symbols: &[u32],
-    at: At,
-) -> Answer
-    requires { Whole limits parts.now pair.now symbols.now }
-    ensures { Here b.now
-        (mode_of limits parts.now pair.now symbols.now) at result }
+#[tactic(auto, using(crate::proofs::LookReturns::here_got))]
+fn tree_here(buffer: &Buffer, at: At) -> Result<Reply, Refusal>
+    ensures { Here buffer.now.bytes.now (mode_in buffer.now.tables) at result }
 {
-    let read = decode_in(b, limits, parts, pair, symbols, at.number, at.place);
-    match read {
-        TreeRead::Refused(number) => refused(number, at.number),
-        TreeRead::Got(here) => {
-            let tree = here.tree;
-            Answer::Tree(ReportedTree {
-                tree: tree,
-                loose: loose_at(b, at.place),
-            })
-        }
-    }
+    let read = read_tree(buffer, at.number, at.place)?;
+    Ok(Reply::Tree(ReportedTree {
+        tree: read.tree,
+        loose: loose_at(buffer.bytes, at.place),
+    }))
 }
 
 // None where it lies outside the list or the last open subtree.
-pub fn token_tree_in<'a>(
-    b: &[u8],
-    trees: u32,
-    limits: Limits,
-    parts: &[u32],
-    pair: &[u32],
-    symbols: &[u32],
+#[tactic(auto, using(crate::proofs::LookReturns::tells_cases))]
+pub fn token_tree_in(
+    buffer: &Buffer,
     at: At,
-    numbers: &'a [u32; 256],
-    counts: &'a [u32; 256],
-    places: &'a [usize; 256],
-) -> Answer
-    requires whole { Whole limits parts.now pair.now symbols.now }
-    requires trees_value { trees_sized trees ≡ true }
-    ensures { TellsIn b.now trees
-        (mode_of limits parts.now pair.now symbols.now)
+    numbers: &[u32; 256],
+    counts: &[u32; 256],
+    places: &[usize; 256],
+) -> Result<Reply, Refusal>
+    ensures { TellsIn buffer.now.bytes.now buffer.now.trees (mode_in buffer.now.tables)
         at numbers.now counts.now places.now result }
 {
-    if !agrees(b, trees, at, numbers, counts, places) {
-        return refused(10, 0);
+    if !agrees(buffer, at, numbers, counts, places) {
+        return Err(Refusal {
+            number: row::STATE,
+            tree: 0,
+        });
     }
-    if !lies_inside(trees, at, 0, numbers, counts) {
-        return Answer::None;
+    if !lies_inside(buffer.trees, at, 0, numbers, counts) {
+        return Ok(Reply::None);
     }
-    tree_here(b, limits, parts, pair, symbols, at)
+    tree_here(buffer, at)
 }
 
-// ---- two leaves
+// ---- two leaves, the nearer first
 
-fn blank() -> Leaf
-    ensures { result ≡ blank_leaf }
-{
-    let span = Span {
-        file: 0,
-        ast_id: 0,
-        context: 0,
-        start: 0,
-        len: 0,
-    };
-    Leaf::Punct(Punct {
-        char: 0,
-        spacing: Spacing::Alone,
-        span: span,
-    })
-}
-
-fn no_leaves(otherwise: Answer) -> TwoLeaves
-    ensures { result ≡ no_leaves otherwise }
-{
-    let nothing = Ahead {
-        leaf: blank(),
-        loose: Loose::None,
-    };
-    let leaves = [nothing, nothing];
-    TwoLeaves {
-        found: false,
-        leaves: leaves,
-        otherwise: otherwise,
-    }
-}
-
-// The second leaf, behind the tree of this number.
+#[tactic(auto, using(crate::proofs::LookReturns::second_cases))]
 fn second(
-    b: &[u8],
-    limits: Limits,
-    parts: &[u32],
-    pair: &[u32],
-    symbols: &[u32],
+    buffer: &Buffer,
     number: u32,
     place: usize,
     near: Ahead,
-) -> TwoLeaves
-    requires whole { Whole limits parts.now pair.now symbols.now }
-    requires number_bound { number + 1 < 4294967296 }
-    ensures { Second b.now
-        (mode_of limits parts.now pair.now symbols.now) number place near result }
+) -> Result<Option<[Ahead; 2]>, Refusal>
+    requires { number + 1 < 4294967296 }
+    ensures { Second buffer.now.bytes.now (mode_in buffer.now.tables) number place near result }
 {
-    let read = decode_in(b, limits, parts, pair, symbols, number + 1, place);
-    match read {
-        TreeRead::Refused(refusal) => no_leaves(refused(refusal, number + 1)),
-        TreeRead::Got(here) => {
-            let tree = here.tree;
-            let TokenTree::Leaf(leaf) = tree else {
-                return no_leaves(Answer::None);
-            };
-            let far = Ahead {
-                leaf: leaf,
-                loose: loose_at(b, place),
-            };
-            let leaves = [near, far];
-            TwoLeaves {
-                found: true,
-                leaves: leaves,
-                otherwise: Answer::None,
-            }
-        }
-    }
+    let here = read_tree(buffer, number + 1, place)?;
+    let TokenTree::Leaf(leaf) = here.tree else {
+        return Ok(None);
+    };
+    let far = Ahead {
+        leaf,
+        loose: loose_at(buffer.bytes, place),
+    };
+    Ok(Some([near, far]))
 }
 
 // If the first is no leaf, the second is not read.
-fn first(
-    b: &[u8],
-    limits: Limits,
-    parts: &[u32],
-    pair: &[u32],
-    symbols: &[u32],
-    at: At,
-) -> TwoLeaves
-    requires whole { Whole limits parts.now pair.now symbols.now }
-    requires number_bound { at.number + 1 < 4294967296 }
-    ensures { First b.now
-        (mode_of limits parts.now pair.now symbols.now) at result }
+#[tactic(auto, using(crate::proofs::LookReturns::first_cases))]
+fn first(buffer: &Buffer, at: At) -> Result<Option<[Ahead; 2]>, Refusal>
+    requires { at.number + 1 < 4294967296 }
+    ensures { First buffer.now.bytes.now (mode_in buffer.now.tables) at result }
 {
-    let read = decode_in(b, limits, parts, pair, symbols, at.number, at.place);
-    match read {
-        TreeRead::Refused(number) => no_leaves(refused(number, at.number)),
-        TreeRead::Got(here) => {
-            let tree = here.tree;
-            let TokenTree::Leaf(leaf) = tree else {
-                return no_leaves(Answer::None);
-            };
-            let near = Ahead {
-                leaf: leaf,
-                loose: loose_at(b, at.place),
-            };
-            second(b, limits, parts, pair, symbols, at.number, here.next, near)
-        }
-    }
+    let here = read_tree(buffer, at.number, at.place)?;
+    let TokenTree::Leaf(leaf) = here.tree else {
+        return Ok(None);
+    };
+    let near = Ahead {
+        leaf,
+        loose: loose_at(buffer.bytes, at.place),
+    };
+    second(buffer, at.number, here.next, near)
 }
 
 // None where one of the two lies outside the list or the last open subtree.
-pub fn peek_two_leaves_in<'a>(
-    b: &[u8],
-    trees: u32,
-    limits: Limits,
-    parts: &[u32],
-    pair: &[u32],
-    symbols: &[u32],
+#[tactic(auto, using(crate::proofs::LookReturns::peeks_cases))]
+pub fn peek_two_leaves_in(
+    buffer: &Buffer,
     at: At,
-    numbers: &'a [u32; 256],
-    counts: &'a [u32; 256],
-    places: &'a [usize; 256],
-) -> TwoLeaves
-    requires whole { Whole limits parts.now pair.now symbols.now }
-    requires trees_value { trees_sized trees ≡ true }
-    ensures { PeeksIn b.now trees
-        (mode_of limits parts.now pair.now symbols.now)
+    numbers: &[u32; 256],
+    counts: &[u32; 256],
+    places: &[usize; 256],
+) -> Result<Option<[Ahead; 2]>, Refusal>
+    ensures { PeeksIn buffer.now.bytes.now buffer.now.trees (mode_in buffer.now.tables)
         at numbers.now counts.now places.now result }
 {
-    if !agrees(b, trees, at, numbers, counts, places) {
-        return no_leaves(refused(10, 0));
+    if !agrees(buffer, at, numbers, counts, places) {
+        return Err(Refusal {
+            number: row::STATE,
+            tree: 0,
+        });
     }
-    if !lies_inside(trees, at, 1, numbers, counts) {
-        return no_leaves(Answer::None);
+    if !lies_inside(buffer.trees, at, 1, numbers, counts) {
+        return Ok(None);
     }
-    first(b, limits, parts, pair, symbols, at)
+    first(buffer, at)
 }
 
 // ---- over a part table whose last two are the root's, row 1 first
 
-pub fn token_tree<'a>(
+pub fn token_tree(
     b: &[u8],
     trees: u32,
     parts: &[u32],
     symbols: &[u32],
     at: At,
-    numbers: &'a [u32; 256],
-    counts: &'a [u32; 256],
-    places: &'a [usize; 256],
-) -> Answer
+    numbers: &[u32; 256],
+    counts: &[u32; 256],
+    places: &[usize; 256],
+) -> Result<Reply, Refusal>
     ensures { Tells b.now trees parts.now symbols.now
         at numbers.now counts.now places.now result }
 {
-    if !sized(trees, parts, symbols) {
-        return refused(1, 0);
-    }
-    let limits = own_limits(parts.len() / PART_WORDS, symbols.len());
-    let pair = &parts[PART_WORDS * limits.limit..];
-    token_tree_in(
-        b, trees, limits, parts, pair, symbols, at, numbers, counts, places,
-    )
+    let buffer = own_buffer(b, trees, parts, symbols)?;
+    token_tree_in(&buffer, at, numbers, counts, places)
 }
 
-pub fn peek_two_leaves<'a>(
+pub fn peek_two_leaves(
     b: &[u8],
     trees: u32,
     parts: &[u32],
     symbols: &[u32],
     at: At,
-    numbers: &'a [u32; 256],
-    counts: &'a [u32; 256],
-    places: &'a [usize; 256],
-) -> TwoLeaves
+    numbers: &[u32; 256],
+    counts: &[u32; 256],
+    places: &[usize; 256],
+) -> Result<Option<[Ahead; 2]>, Refusal>
     ensures { Peeks b.now trees parts.now symbols.now
         at numbers.now counts.now places.now result }
 {
-    if !sized(trees, parts, symbols) {
-        return no_leaves(refused(1, 0));
-    }
-    let limits = own_limits(parts.len() / PART_WORDS, symbols.len());
-    let pair = &parts[PART_WORDS * limits.limit..];
-    peek_two_leaves_in(
-        b, trees, limits, parts, pair, symbols, at, numbers, counts, places,
-    )
+    let buffer = own_buffer(b, trees, parts, symbols)?;
+    peek_two_leaves_in(&buffer, at, numbers, counts, places)
 }

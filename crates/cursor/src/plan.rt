@@ -1,29 +1,30 @@
 // What each call answers, and how it changes the cursor. The arrays are read here and not written.
-ghost use Rattle.std.specs.Prelude.{◌≡◌, true, ◌+◌, ◌<◌, ◌≤◌};
+ghost use Rattle.std.specs.Prelude.{◌≡◌, ◌+◌, ◌<◌, ◌≤◌};
 ghost use Rattle.format.specs.Cursor.{bump, end, bump_or_end};
 ghost use Rattle.tree.specs.Loose.{loose_of};
-ghost use Rattle.tree.specs.Mode.{mode_of, Whole};
-ghost use Rattle.walk.specs.Source.{trees_sized};
+ghost use Rattle.tree.specs.Tables.{mode_in};
 ghost use Rattle.cursor.specs.Plan.{refusal, doing, Enters, GoesOn, Shuts, ShutsLast, Planned};
 
 use crate::open::{agrees, closes_last};
 use crate::state::{At, MOST_OPEN};
-use decode::decode::{TreeAt, TreeRead, decode_in};
+use decode::decode::TreeAt;
 use decode::judge::tree_in;
 use decode::loose::loose_at;
-use tree::limits::Limits;
+use pack::row::{self, Row};
 use tree::loose::{Loose, ReportedTree};
-use tree::raw::{Descendants, RawAt, RawRead, RawTree};
+use tree::raw::{Descendants, RawAt, RawTree};
 use tree::refusal::Refusal;
 use tree::types::TokenTree;
+use walk::buffer::Buffer;
+use walk::read::read_tree;
 
+// What a call hands back.
 #[derive(Clone, Copy)]
-pub enum Answer {
+pub enum Reply {
     // Nothing to hand back.
     Done,
     None,
     Tree(ReportedTree),
-    Refused(Refusal),
 }
 
 // A subtree that is opened, and the place of its first child.
@@ -46,19 +47,15 @@ pub enum Change {
 
 #[derive(Clone, Copy)]
 pub struct Plan {
-    pub answer: Answer,
+    pub answer: Result<Reply, Refusal>,
     pub change: Change,
 }
 
-fn refuse(number: u32, tree: u32) -> Plan
+fn refuse(number: Row, tree: u32) -> Plan
     ensures { result ≡ refusal number tree }
 {
-    let refusal = Refusal {
-        number: number,
-        tree: tree,
-    };
     Plan {
-        answer: Answer::Refused(refusal),
+        answer: Err(Refusal { number, tree }),
         change: Change::Stay,
     }
 }
@@ -67,77 +64,63 @@ fn done(change: Change) -> Plan
     ensures { result ≡ doing change }
 {
     Plan {
-        answer: Answer::Done,
-        change: change,
+        answer: Ok(Reply::Done),
+        change,
     }
 }
 
 // Over a leaf, or into a subtree: 4 for a 257th that is open.
+#[tactic(auto, using(crate::proofs::PlanReturns::enter_cases))]
 fn enter(at: At, here: RawAt) -> Plan
     requires { at.number + 1 < 4294967296 }
     ensures { Enters at here result }
 {
-    let tree = here.tree;
-    match tree {
+    match here.tree {
         RawTree::Punct(_) => done(Change::On(here.next)),
         RawTree::Ident(_) => done(Change::On(here.next)),
         RawTree::Literal(_) => done(Change::On(here.next)),
         RawTree::Subtree(subtree) => {
             if MOST_OPEN <= at.depth {
-                return refuse(4, at.number);
+                return refuse(row::DEPTH, at.number);
             }
-            let count = subtree.len;
-            let opening = Opening {
-                count: count,
+            done(Change::Open(Opening {
+                count: subtree.len,
                 next: here.next,
-            };
-            done(Change::Open(opening))
+            }))
         }
     }
 }
 
 // To the next tree, whose entries are not looked up. At the end nothing changes.
-fn go_on(
-    b: &[u8],
-    trees: u32,
-    limits: Limits,
-    parts: &[u32],
-    pair: &[u32],
-    symbols: &[u32],
-    at: At,
-) -> Plan
-    requires { Whole limits parts.now pair.now symbols.now }
-    ensures { GoesOn b.now trees
-        (mode_of limits parts.now pair.now symbols.now) at result }
+#[tactic(auto, using(crate::proofs::PlanReturns::go_cases))]
+fn go_on(buffer: &Buffer, at: At) -> Plan
+    ensures { GoesOn buffer.now.bytes.now buffer.now.trees (mode_in buffer.now.tables) at result }
 {
-    if trees <= at.number {
+    if buffer.trees <= at.number {
         return done(Change::Stay);
     }
-    let read = tree_in(b, limits, at.number, at.place);
-    match read {
-        RawRead::Bad(number) => refuse(number, at.number),
-        RawRead::Got(here) => enter(at, here),
+    match tree_in(buffer.bytes, buffer.tables.limits, at.number, at.place) {
+        Ok(here) => enter(at, here),
+        Err(number) => refuse(number, at.number),
     }
 }
 
 // An open subtree that was read again: 10 if it is none with that count.
+#[tactic(auto, using(crate::proofs::PlanReturns::shut_cases))]
 fn shut(here: TreeAt, loose: Loose, count: u32) -> Plan
     ensures { Shuts here (loose_of loose) count result }
 {
-    let tree = here.tree;
-    match tree {
-        TokenTree::Leaf(_) => refuse(10, 0),
+    match here.tree {
+        TokenTree::Leaf(_) => refuse(row::STATE, 0),
         TokenTree::Subtree(subtree) => {
-            let len = subtree.len;
-            if len.0 != count {
-                return refuse(10, 0);
+            if subtree.len.0 != count {
+                return refuse(row::STATE, 0);
             }
-            let reported = ReportedTree {
-                tree: tree,
-                loose: loose,
-            };
             Plan {
-                answer: Answer::Tree(reported),
+                answer: Ok(Reply::Tree(ReportedTree {
+                    tree: here.tree,
+                    loose,
+                })),
                 change: Change::Shut,
             }
         }
@@ -145,113 +128,85 @@ fn shut(here: TreeAt, loose: Loose, count: u32) -> Plan
 }
 
 // The last open subtree, read again at its place and shut.
-fn shut_last<'a>(
-    b: &[u8],
-    limits: Limits,
-    parts: &[u32],
-    pair: &[u32],
-    symbols: &[u32],
+#[tactic(auto, using(crate::proofs::PlanReturns::last_cases))]
+fn shut_last(
+    buffer: &Buffer,
     at: At,
-    numbers: &'a [u32; 256],
-    counts: &'a [u32; 256],
-    places: &'a [usize; 256],
+    numbers: &[u32; 256],
+    counts: &[u32; 256],
+    places: &[usize; 256],
 ) -> Plan
-    requires whole { Whole limits parts.now pair.now symbols.now }
-    requires depth_nonzero { (0 < at.depth) × (at.depth ≤ 256) }
-    ensures { ShutsLast b.now
-        (mode_of limits parts.now pair.now symbols.now)
+    requires { (0 < at.depth) × (at.depth ≤ 256) }
+    ensures { ShutsLast buffer.now.bytes.now (mode_in buffer.now.tables)
         at numbers.now counts.now places.now result }
 {
     let last = at.depth - 1;
-    let number = numbers[last];
     let place = places[last];
-    let read = decode_in(b, limits, parts, pair, symbols, number, place);
-    match read {
-        TreeRead::Refused(refused) => refuse(refused, number),
-        TreeRead::Got(here) => shut(here, loose_at(b, place), counts[last]),
+    match read_tree(buffer, numbers[last], place) {
+        Ok(here) => shut(here, loose_at(buffer.bytes, place), counts[last]),
+        Err(refusal) => refuse(refusal.number, refusal.tree),
     }
 }
 
 // `bump`: closing is 10.
-pub(crate) fn plan_bump<'a>(
-    b: &[u8],
-    trees: u32,
-    limits: Limits,
-    parts: &[u32],
-    pair: &[u32],
-    symbols: &[u32],
+#[tactic(auto, using(crate::proofs::PlanReturns::plan_cases))]
+pub(crate) fn plan_bump(
+    buffer: &Buffer,
     at: At,
-    numbers: &'a [u32; 256],
-    counts: &'a [u32; 256],
-    places: &'a [usize; 256],
+    numbers: &[u32; 256],
+    counts: &[u32; 256],
+    places: &[usize; 256],
 ) -> Plan
-    requires whole { Whole limits parts.now pair.now symbols.now }
-    requires trees_value { trees_sized trees ≡ true }
-    ensures { Planned b.now trees
-        (mode_of limits parts.now pair.now symbols.now) bump
+    ensures { Planned buffer.now.bytes.now buffer.now.trees (mode_in buffer.now.tables) bump
         at numbers.now counts.now places.now result }
 {
-    if !agrees(b, trees, at, numbers, counts, places) {
-        return refuse(10, 0);
+    if !agrees(buffer, at, numbers, counts, places) {
+        return refuse(row::STATE, 0);
     }
     if closes_last(at, numbers, counts) {
-        return refuse(10, 0);
+        return refuse(row::STATE, 0);
     }
-    go_on(b, trees, limits, parts, pair, symbols, at)
+    go_on(buffer, at)
 }
 
 // `end`: not closing is 10.
-pub(crate) fn plan_end<'a>(
-    b: &[u8],
-    trees: u32,
-    limits: Limits,
-    parts: &[u32],
-    pair: &[u32],
-    symbols: &[u32],
+#[tactic(auto, using(crate::proofs::PlanReturns::plan_cases))]
+pub(crate) fn plan_end(
+    buffer: &Buffer,
     at: At,
-    numbers: &'a [u32; 256],
-    counts: &'a [u32; 256],
-    places: &'a [usize; 256],
+    numbers: &[u32; 256],
+    counts: &[u32; 256],
+    places: &[usize; 256],
 ) -> Plan
-    requires whole { Whole limits parts.now pair.now symbols.now }
-    requires trees_value { trees_sized trees ≡ true }
-    ensures { Planned b.now trees
-        (mode_of limits parts.now pair.now symbols.now) end
+    ensures { Planned buffer.now.bytes.now buffer.now.trees (mode_in buffer.now.tables) end
         at numbers.now counts.now places.now result }
 {
-    if !agrees(b, trees, at, numbers, counts, places) {
-        return refuse(10, 0);
+    if !agrees(buffer, at, numbers, counts, places) {
+        return refuse(row::STATE, 0);
     }
     if !closes_last(at, numbers, counts) {
-        return refuse(10, 0);
+        return refuse(row::STATE, 0);
     }
-    shut_last(b, limits, parts, pair, symbols, at, numbers, counts, places)
+    shut_last(buffer, at, numbers, counts, places)
 }
 
 // `bump_or_end`: closing shuts, and nothing is read.
-pub(crate) fn plan_bump_or_end<'a>(
-    b: &[u8],
-    trees: u32,
-    limits: Limits,
-    parts: &[u32],
-    pair: &[u32],
-    symbols: &[u32],
+#[tactic(auto, using(crate::proofs::PlanReturns::plan_cases))]
+pub(crate) fn plan_bump_or_end(
+    buffer: &Buffer,
     at: At,
-    numbers: &'a [u32; 256],
-    counts: &'a [u32; 256],
-    places: &'a [usize; 256],
+    numbers: &[u32; 256],
+    counts: &[u32; 256],
+    places: &[usize; 256],
 ) -> Plan
-    requires whole { Whole limits parts.now pair.now symbols.now }
-    requires trees_value { trees_sized trees ≡ true }
-    ensures { Planned b.now trees
-        (mode_of limits parts.now pair.now symbols.now) bump_or_end
+    ensures { Planned buffer.now.bytes.now buffer.now.trees (mode_in buffer.now.tables) bump_or_end
         at numbers.now counts.now places.now result }
 {
-    if !agrees(b, trees, at, numbers, counts, places) {
-        return refuse(10, 0);
+    if !agrees(buffer, at, numbers, counts, places) {
+        return refuse(row::STATE, 0);
     }
     if closes_last(at, numbers, counts) {
         return done(Change::Shut);
     }
-    go_on(b, trees, limits, parts, pair, symbols, at)
+    go_on(buffer, at)
 }

@@ -3,57 +3,42 @@ use Prim.Native.Nat.{ℕ}
 use mathlib.Core.Bool.{Bool, true, false}
 use mathlib.Core.Path.{◌≡◌, refl, sym, ap, ◌∙◌}
 use mathlib.Core.List.{List}
-use native.Mathlib.Omega.{arith}
 use lib.Dec.{eqb}
+use Rattle.std.specs.Prelude.{Result, Ok, Err}
 use Rattle.format.specs.Reader.{Reply, got, bad}
 use Rattle.format.specs.Tree.{Raw, tree_at}
 use Rattle.format.specs.Fields.{fields}
 use Rattle.format.specs.Tables.{TableRules, rules, row_eight, Mode, limits, tree_words, mode_tables}
 use Rattle.format.specs.Buffer.{formed, judge, reader}
-use Rattle.tree.specs.Raw.{raw_of, raw_answer}
+use Rattle.tree.specs.Raw.{RawAt, raw_of, raw_answer}
 use Rattle.tree.specs.Types.{resolved, tree_words_of}
 use Rattle.decode.specs.Judge.{limit_rules}
-use Rattle.decode.specs.Decode.{tree_answer, read_in}
+use Rattle.decode.specs.Decode.{TreeAt, tree_answer, read_in}
 use Rattle.tree.specs.Mode.{limits_of, mode_of, Whole}
 use Rattle.tree.specs.declared.limits.Limits.{Limits}
-use Rattle.tree.specs.declared.raw.RawAt.{RawAt}
-use Rattle.tree.specs.declared.raw.RawRead.{RawRead}
-use Rattle.tree.specs.declared.raw.RawRead.TheVariants as raws
 use Rattle.tree.specs.declared.types.TokenTree.{TokenTree}
-use Rattle.decode.specs.declared.decode.TreeAt.{TreeAt}
-use Rattle.decode.specs.declared.decode.TreeRead.{TreeRead}
-use Rattle.decode.specs.declared.decode.TreeRead.TheVariants.{Got, Refused}
 use Rattle.tree.proofs.TypesWords.{resolved_words}
 use Rattle.decode.proofs.ReadUse.{reply_bad}
 use Rattle.decode.proofs.JudgeUse.{judged_read, judged_passed}
 
 -- ---- answers and replies
 
-got_refused : {A : Type 0} (y : TreeAt) (k : ℕ) → Got y ≡ Refused k → A
-got_refused y k e = let z : ◌≡◌ {A = ℕ} 0 1 = cc in absurd (omega arith)
-
-got_same : (y z : TreeAt) → Got y ≡ Got z → y ≡ z
-got_same y z e = cc
-
-refused_same : (j k : ℕ) → Refused j ≡ Refused k → j ≡ k
-refused_same j k e = cc
-
-of_got : (z : Reply TokenTree) (y : TreeAt) → Got y ≡ tree_answer z → z ≡ got y.tree y.next y.children.0
+of_ok : (z : Reply TokenTree) (y : TreeAt) → Ok y ≡ tree_answer z → z ≡ got y.tree y.next y.children.0
 unfolding tree_answer
-of_got (got t n k) y e = sym (ap (λ (u : TreeAt). got u.tree u.next u.children.0) (got_same y (record { tree = t; next = n; children = record { 0 = k } }) e))
-of_got (bad r) y e = got_refused y r e
+of_ok (got t n k) y e = let d : y ≡ record { tree = t; next = n; children = record { 0 = k } } = cc in rw d
+of_ok (bad r) y e = cc
 
-of_refused : (z : Reply TokenTree) (k : ℕ) → Refused k ≡ tree_answer z → z ≡ bad k
+of_err : (z : Reply TokenTree) (k : ℕ) → Err k ≡ tree_answer z → z ≡ bad k
 unfolding tree_answer
-of_refused (got t n j) k e = got_refused (record { tree = t; next = n; children = record { 0 = j } }) k (sym e)
-of_refused (bad r) k e = ap bad (sym (refused_same k r e))
+of_err (got t n j) k e = cc
+of_err (bad r) k e = cc
 
-module _ (z : Reply TokenTree) (r : TreeRead) (e : r ≡ tree_answer z) where
-  pub decoded_got : (y : TreeAt) → r ≡ Got y → z ≡ got y.tree y.next y.children.0
-  decoded_got y k = of_got z y (sym k ∙ e)
+module _ (z : Reply TokenTree) (r : Result TreeAt ℕ) (e : r ≡ tree_answer z) where
+  pub decoded_got : (y : TreeAt) → r ≡ Ok y → z ≡ got y.tree y.next y.children.0
+  decoded_got y k = of_ok z y (sym k ∙ e)
 
-  pub decoded_refused : (k : ℕ) → r ≡ Refused k → z ≡ bad k
-  decoded_refused k q = of_refused z k (sym q ∙ e)
+  pub decoded_refused : (k : ℕ) → r ≡ Err k → z ≡ bad k
+  decoded_refused k q = of_err z k (sym q ∙ e)
 
 -- ---- list words
 
@@ -98,7 +83,7 @@ module _ {A : Type 0} (f : ℕ → Raw → A) (T T' : TableRules) (n p : ℕ) (s
       go true true false a b c = let d : bad (T.judged n t) ≡ bad r = simp (a, b, c) at e in simp (a, b, ← same t, c) (ap (shown (f n)) d)
       go true true true a b c = let d : got t m k ≡ bad r = simp (a, b, c) at e in simp (a, b, ← same t, c) (ap (shown (f n)) d)
 
-module _ (b : List ℕ) (N : Limits) (parts pair symbols : List ℕ) (w : Whole N parts pair symbols) (n at : ℕ) (r : RawRead)
+module _ (b : List ℕ) (N : Limits) (parts pair symbols : List ℕ) (w : Whole N parts pair symbols) (n at : ℕ) (r : Result RawAt ℕ)
     (e : r ≡ raw_answer (judge (λ n t. t) (limit_rules (limits_of N)) n at (tree_at b at))) where
   abbrev T : TableRules
   T = limit_rules (limits_of N)
@@ -109,13 +94,13 @@ module _ (b : List ℕ) (N : Limits) (parts pair symbols : List ℕ) (w : Whole 
   same : (t : Raw) → row_eight (limits_of N) n t ≡ row_eight (limits own) n t
   same t = ap (λ (k : ℕ). row_eight (record { limit = N.limit; root = N.root; symbols = k }) n t) w.many
 
-  pub sized_refused : (k : ℕ) → r ≡ raws.Bad k → read_in b own n at ≡ bad k
+  pub sized_refused : (k : ℕ) → r ≡ Err k → read_in b own n at ≡ bad k
   unfolding read_in
   sized_refused k q =
       let d = reply_bad (judge (λ n t. t) T n at (tree_at b at)) r e k q in
       bad_shown (resolved own) T (rules (mode_tables own)) n at same (tree_at b at) k d
 
-  pub sized_got : (y : RawAt) → r ≡ raws.Got y → read_in b own n at ≡ got (resolved own n (raw_of y.tree)) y.next y.children.0
+  pub sized_got : (y : RawAt) → r ≡ Ok y → read_in b own n at ≡ got (resolved own n (raw_of y.tree)) y.next y.children.0
   unfolding read_in judge
   sized_got y q =
       let z = judged_read b T n at r e y q in

@@ -7,6 +7,7 @@ use native.Mathlib.Omega.{arith}
 use borrow.Author.Tests.{eqb-true}
 use lib.Dec.{eqb}
 use lib.ListN.{length}
+use Rattle.std.specs.Prelude.{Result, Ok, Err}
 use Rattle.format.specs.Reader.{Reply, got, bad}
 use Rattle.format.specs.Tree.{Raw, tree_at}
 use Rattle.format.specs.Fields.{fields}
@@ -16,15 +17,11 @@ use Rattle.format.specs.Loose as format
 use Rattle.format.specs.Loose.{beside}
 use Rattle.format.proofs.Shown.{shown_reply}
 use Rattle.format.proofs.TreeBounds.{Ended, tree_ended}
-use Rattle.tree.specs.Raw.{raw_of, raw_answer}
+use Rattle.tree.specs.Raw.{RawAt, raw_of, raw_answer}
 use Rattle.tree.specs.Loose.{loose_of}
-use Rattle.tree.specs.declared.raw.RawAt.{RawAt}
-use Rattle.tree.specs.declared.raw.RawRead.{RawRead}
-use Rattle.tree.specs.declared.raw.RawRead.TheVariants.{Got}
+use Rattle.tree.specs.declared.raw.RawTree.{RawTree}
 use Rattle.decode.specs.Judge.{judged_of}
-use Rattle.decode.specs.declared.judge.JudgedTree.{JudgedTree}
-use Rattle.decode.specs.declared.judge.TreeJudged.{TreeJudged}
-use Rattle.decode.specs.declared.judge.TreeJudged.TheVariants as judgeds
+use Rattle.decode.specs.declared.loose.Reported.{Reported}
 use Rattle.decode.proofs.ReadUse.{reply_got}
 
 -- a tree that no row refuses
@@ -56,7 +53,7 @@ module _ (T : TableRules) (n p : ℕ) where
             let d : got u l j ≡ got t m k = simp (f, g, h) at e in
             (d, subst (holds t m) d (record { form = f; fits = g; row = eqb-true _ _ h }))
 
-module _ (b : List ℕ) (T : TableRules) (n at : ℕ) (r : RawRead) (e : r ≡ raw_answer (judge (λ n t. t) T n at (tree_at b at))) (y : RawAt) (k : r ≡ Got y) where
+module _ (b : List ℕ) (T : TableRules) (n at : ℕ) (r : Result RawAt ℕ) (e : r ≡ raw_answer (judge (λ n t. t) T n at (tree_at b at))) (y : RawAt) (k : r ≡ Ok y) where
   judged_here : (tree_at b at ≡ got (raw_of y.tree) y.next y.children.0) × Passed T n at (raw_of y.tree) y.next
   judged_here = judged_back T n at (raw_of y.tree) y.next y.children.0 (tree_at b at) (reply_got (judge (λ n t. t) T n at (tree_at b at)) r e y k)
 
@@ -92,19 +89,19 @@ unfolding report_in
 report_beside x (got t n k) = refl
 report_beside x (bad r) = refl
 
-module _ (x : format.Loose) (z : Reply Raw) (r : TreeJudged) (e : judged_of r ≡ beside x z) where
+module _ (x : format.Loose) (z : Reply Raw) (r : Result (Reported RawTree) ℕ) (e : judged_of r ≡ beside x z) where
   told_tree : unreported (judged_of r) ≡ z
   told_tree = ap unreported e ∙ unreported_beside x z
 
-  pub told_bad : (k : ℕ) → r ≡ judgeds.Bad k → z ≡ bad k
+  pub told_bad : (k : ℕ) → r ≡ Err k → z ≡ bad k
   unfolding judged_of
-  told_bad k q = sym told_tree ∙ ap (λ (u : TreeJudged). unreported (judged_of u)) q
+  told_bad k q = sym told_tree ∙ ap (λ (u : Result (Reported RawTree) ℕ). unreported (judged_of u)) q
 
-  module _ (y : JudgedTree) (q : r ≡ judgeds.Got y) where
+  module _ (y : Reported RawTree) (q : r ≡ Ok y) where
     pub told_got : z ≡ got (raw_of y.tree) y.next y.children.0
     unfolding judged_of
-    told_got = sym told_tree ∙ ap (λ (u : TreeJudged). unreported (judged_of u)) q
+    told_got = sym told_tree ∙ ap (λ (u : Result (Reported RawTree) ℕ). unreported (judged_of u)) q
 
     pub told_loose : loose_of y.loose ≡ x
     unfolding judged_of report_in
-    told_loose = sym (ap (λ (u : TreeJudged). report_in x (judged_of u)) q) ∙ ap (report_in x) e ∙ report_beside x z
+    told_loose = sym (ap (λ (u : Result (Reported RawTree) ℕ). report_in x (judged_of u)) q) ∙ ap (report_in x) e ∙ report_beside x z

@@ -5,45 +5,43 @@ use mathlib.Core.Path.{◌≡◌, refl, sym, ap, ◌∙◌, subst}
 use mathlib.Core.List.{List}
 use native.Mathlib.Omega.{arith}
 use lib.ListN.{length}
+use Rattle.std.specs.Prelude.{Result, Ok, Err}
 use Rattle.format.specs.Reader.{Reply, got, bad}
 use Rattle.format.specs.Tree.{Raw, tree_at}
 use Rattle.format.specs.Fields.{fields}
 use Rattle.format.proofs.TreeBounds.{Ended, tree_ended}
-use Rattle.tree.specs.Raw.{raw_of, raw_answer, in_range}
-use Rattle.tree.specs.declared.raw.RawAt.{RawAt}
-use Rattle.tree.specs.declared.raw.RawRead.{RawRead}
-use Rattle.tree.specs.declared.raw.RawRead.TheVariants.{Got, Bad}
+use Rattle.tree.specs.Raw.{RawAt, raw_of, raw_answer, in_range}
 use Rattle.tree.proofs.RawAgain.{raw_again}
 
 -- ---- answers and replies
 
-pub got_bad : {A : Type 0} (y : RawAt) (k : ℕ) → Got y ≡ Bad k → A
+pub got_bad : {A : Type 0} (y : RawAt) (k : ℕ) → ◌≡◌ {A = Result RawAt ℕ} (Ok y) (Err k) → A
 got_bad y k e = let z : ◌≡◌ {A = ℕ} 0 1 = cc in absurd (omega arith)
 
-got_same : (y z : RawAt) → Got y ≡ Got z → y ≡ z
+got_same : (y z : RawAt) → ◌≡◌ {A = Result RawAt ℕ} (Ok y) (Ok z) → y ≡ z
 got_same y z e = cc
 
-bad_same : (j k : ℕ) → Bad j ≡ Bad k → j ≡ k
+bad_same : (j k : ℕ) → ◌≡◌ {A = Result RawAt ℕ} (Err j) (Err k) → j ≡ k
 bad_same j k e = cc
 
-of_got : (z : Reply Raw) (y : RawAt) → Got y ≡ raw_answer z → z ≡ got (raw_of y.tree) y.next y.children.0
+of_got : (z : Reply Raw) (y : RawAt) → Ok y ≡ raw_answer z → z ≡ got (raw_of y.tree) y.next y.children.0
 unfolding raw_answer
 of_got (got t n k) y e =
     let d = got_same _ _ e in
     ap (λ (u : Raw). got u n k) (sym (raw_again t)) ∙ sym (ap (λ (u : RawAt). got (raw_of u.tree) u.next u.children.0) d)
 of_got (bad r) y e = got_bad y r e
 
-of_bad : (z : Reply Raw) (k : ℕ) → Bad k ≡ raw_answer z → z ≡ bad k
+of_bad : (z : Reply Raw) (k : ℕ) → Err k ≡ raw_answer z → z ≡ bad k
 unfolding raw_answer
 of_bad (got t n j) k e = got_bad _ k (sym e)
 of_bad (bad r) k e = ap bad (sym (bad_same _ _ e))
 
 -- the reply of an answer by its case
-module _ (z : Reply Raw) (r : RawRead) (e : r ≡ raw_answer z) where
-  pub reply_got : (y : RawAt) → r ≡ Got y → z ≡ got (raw_of y.tree) y.next y.children.0
+module _ (z : Reply Raw) (r : Result RawAt ℕ) (e : r ≡ raw_answer z) where
+  pub reply_got : (y : RawAt) → r ≡ Ok y → z ≡ got (raw_of y.tree) y.next y.children.0
   reply_got y k = of_got z y (sym k ∙ e)
 
-  pub reply_bad : (k : ℕ) → r ≡ Bad k → z ≡ bad k
+  pub reply_bad : (k : ℕ) → r ≡ Err k → z ≡ bad k
   reply_bad k q = of_bad z k (sym q ∙ e)
 
 -- ---- fields in range
@@ -72,7 +70,7 @@ module _ (t : Raw) (n k : ℕ) where
       go false f = let d : bad 2 ≡ got t n k = simp f at e in reply_cross t n k 2 d
 
 -- where the next tree stands
-module _ (b : List ℕ) (at : ℕ) (r : RawRead) (e : r ≡ raw_answer (in_range (tree_at b at))) (y : RawAt) (k : r ≡ Got y) where
+module _ (b : List ℕ) (at : ℕ) (r : Result RawAt ℕ) (e : r ≡ raw_answer (in_range (tree_at b at))) (y : RawAt) (k : r ≡ Ok y) where
   pub raw_read : tree_at b at ≡ got (raw_of y.tree) y.next y.children.0
   raw_read = (range_back (raw_of y.tree) y.next y.children.0 (tree_at b at) (reply_got (in_range (tree_at b at)) r e y k)).0
 

@@ -1,5 +1,5 @@
 -- Tree n of a buffer as the source's tree: read, judged, and its indices looked up.
-use Rattle.std.specs.Prelude.{ℕ, List, if◌then◌else◌}
+use Rattle.std.specs.Prelude.{ℕ, List, Result, Ok, Err, if◌then◌else◌}
 use Rattle.format.specs.Reader.{Reply, got, bad}
 use Rattle.format.specs.Tree.{Raw, tree_at}
 use Rattle.format.specs.Tables.{rules, Mode, mode_tables, own_mode, own_tables}
@@ -8,24 +8,20 @@ use Rattle.format.specs.Loose.{Loose}
 use Rattle.tree.specs.Loose.{loose_of}
 use Rattle.tree.specs.Types.{resolved}
 use Rattle.tree.specs.declared.types.TokenTree.{TokenTree}
-use Rattle.decode.specs.declared.decode.TreeDecoded.{TreeDecoded}
-use Rattle.decode.specs.declared.decode.TreeDecoded.TheVariants as decodeds
-use Rattle.decode.specs.declared.decode.TreeRead.{TreeRead}
-use Rattle.decode.specs.declared.decode.TreeRead.TheVariants.{Got, Refused}
+use Rattle.tree.specs.declared.raw.At.{At}
+use Rattle.decode.specs.declared.loose.Reported.{Reported}
 
-unfoldable pub tree_answer : Reply TokenTree → TreeRead
-tree_answer (got t next kids) = Got (record { tree = t; next = next; children = record { 0 = kids } })
-tree_answer (bad r) = Refused r
+abbrev pub TreeAt : Type 0
+TreeAt = At TokenTree
 
--- and back
-unfoldable pub reply_of : TreeRead → Reply TokenTree
-reply_of (Got y) = got y.tree y.next y.children.0
-reply_of (Refused r) = bad r
+unfoldable pub tree_answer : Reply TokenTree → Result TreeAt ℕ
+tree_answer (got t next kids) = Ok (record { tree = t; next = next; children = record { 0 = kids } })
+tree_answer (bad r) = Err r
 
 -- with its report
-unfoldable pub decoded_of : TreeDecoded → Reply (TokenTree × Loose)
-decoded_of (decodeds.Got y) = got (y.tree, loose_of y.loose) y.next y.children.0
-decoded_of (decodeds.Refused r) = bad r
+unfoldable pub decoded_of : Result (Reported TokenTree) ℕ → Reply (TokenTree × Loose)
+decoded_of (Ok y) = got (y.tree, loose_of y.loose) y.next y.children.0
+decoded_of (Err r) = bad r
 
 -- what every reader of the source's trees reads over the tables of a mode: the tree shown by its entries
 unfoldable pub read_in : List ℕ → Mode → ℕ → ℕ → Reply TokenTree

@@ -1,2 +1,3 @@
+pub mod Reported
 pub mod Judge
 pub mod Decode

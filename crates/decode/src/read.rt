@@ -1,4 +1,6 @@
 // One tree at a place of a buffer, in whatever form its bytes say: its bytes first, then its fields.
+#![tactic(auto, using(pack::proofs::Use::read_cases, tree::proofs::RawAgain::tree_again), unfolding(tree::specs::Raw::raw_answer, tree::specs::Raw::raw_of, tree::specs::Raw::in_range, format::specs::Tree::controlled, format::specs::Tree::tree_at, format::specs::Tree::after_span))]
+
 ghost use Rattle.std.specs.Prelude.{◌≡◌, ◌+◌, ◌*◌, ◌/◌, ◌%◌, ◌≤◌, ◌<◌, length};
 ghost use Rattle.format.specs.Reader.{got};
 ghost use Rattle.format.specs.Span.{span_at, symbol_at};
@@ -8,25 +10,27 @@ ghost use Rattle.format.specs.Tree.{controlled, tree_at};
 ghost use Rattle.pack.specs.Answer.{span_of};
 ghost use Rattle.tree.specs.Raw.{raw_of, raw_answer, in_range};
 
-use pack::span::{PackedSpan, SpanRead, span_at};
-use pack::symbol::{SymbolRead, decode_symbol};
+use pack::row;
+use pack::row::Row;
+use pack::span::{PackedSpan, span_at};
+use pack::symbol::decode_symbol;
 use pack::unchecked::{byte_at, half_at, word_at};
 use tree::fields::{is_raw_kind, tree_fits};
 use tree::raw::{
-    ChildrenBytes, Descendants, RawAt, RawIdent, RawLiteral, RawPunct, RawRead, RawSubtree, RawTree,
+    At, ChildrenBytes, Descendants, RawAt, RawIdent, RawLiteral, RawPunct, RawSubtree, RawTree,
 };
 
 // A tree all of whose bytes are there.
-fn in_range(tree: RawTree, next: usize, children: ChildrenBytes) -> RawRead
+fn in_range(tree: RawTree, next: usize, children: ChildrenBytes) -> Result<RawAt, Row>
     ensures { result ≡ raw_answer (in_range (got (raw_of tree) next children.0)) }
 {
     if !tree_fits(tree) {
-        return RawRead::Bad(2);
+        return Err(row::FIELD);
     }
-    RawRead::Got(RawAt {
-        tree: tree,
-        next: next,
-        children: children,
+    Ok(At {
+        tree,
+        next,
+        children,
     })
 }
 
@@ -42,24 +46,24 @@ fn subtree_on(
     kind: u32,
     next: usize,
     children: ChildrenBytes,
-) -> RawRead
+) -> Result<RawAt, Row>
     ensures { result ≡ raw_answer (in_range (got
         (subtree (span_of opening) (moved (span_of opening) index distance) len.0 kind)
         next children.0)) }
 {
     if 4294967295 - opening.start < distance {
-        return RawRead::Bad(2);
+        return Err(row::FIELD);
     }
     let closing = PackedSpan {
-        index: index,
+        index,
         start: opening.start + distance,
         len: opening.len,
     };
     let tree = RawSubtree {
-        opening: opening,
-        closing: closing,
-        len: len,
-        kind: kind,
+        opening,
+        closing,
+        len,
+        kind,
     };
     in_range(RawTree::Subtree(tree), next, children)
 }
@@ -72,15 +76,15 @@ fn bits_agree(span: PackedSpan, control: u32) -> bool
 }
 
 // Both lengths are 1, and the stored length is the distance.
-fn form_000(b: &[u8], at: usize, control: u32, span: PackedSpan) -> RawRead
+fn form_000(b: &[u8], at: usize, control: u32, span: PackedSpan) -> Result<RawAt, Row>
     requires { (at + 1 ≤ length b.now) × (control < 256) }
     ensures { result ≡ raw_answer (in_range (form000 b.now (span_of span) at control)) }
 {
     if b.len() - at < 3 {
-        return RawRead::Bad(7);
+        return Err(row::SHORT);
     }
     if !bits_agree(span, control) {
-        return RawRead::Bad(2);
+        return Err(row::FIELD);
     }
     let count = byte_at(b, at + 1);
     let bytes = byte_at(b, at + 2);
@@ -100,12 +104,12 @@ fn form_000(b: &[u8], at: usize, control: u32, span: PackedSpan) -> RawRead
     )
 }
 
-fn form_001(b: &[u8], at: usize, control: u32, span: PackedSpan) -> RawRead
+fn form_001(b: &[u8], at: usize, control: u32, span: PackedSpan) -> Result<RawAt, Row>
     requires { (at + 1 ≤ length b.now) × (control < 256) }
     ensures { result ≡ raw_answer (in_range (form001 b.now (span_of span) at control)) }
 {
     if b.len() - at < 3 {
-        return RawRead::Bad(7);
+        return Err(row::SHORT);
     }
     let count = byte_at(b, at + 1);
     let bytes = byte_at(b, at + 2);
@@ -120,12 +124,12 @@ fn form_001(b: &[u8], at: usize, control: u32, span: PackedSpan) -> RawRead
     )
 }
 
-fn form_010(b: &[u8], at: usize, control: u32, span: PackedSpan) -> RawRead
+fn form_010(b: &[u8], at: usize, control: u32, span: PackedSpan) -> Result<RawAt, Row>
     requires { (at + 1 ≤ length b.now) × (control < 256) }
     ensures { result ≡ raw_answer (in_range (form010 b.now (span_of span) at control)) }
 {
     if b.len() - at < 5 {
-        return RawRead::Bad(7);
+        return Err(row::SHORT);
     }
     let distance = byte_at(b, at + 1);
     let count = byte_at(b, at + 2);
@@ -142,41 +146,39 @@ fn form_010(b: &[u8], at: usize, control: u32, span: PackedSpan) -> RawRead
 }
 
 // The only form with a close span of its own, and the root's.
-fn form_101(b: &[u8], at: usize, control: u32, span: PackedSpan) -> RawRead
+fn form_101(b: &[u8], at: usize, control: u32, span: PackedSpan) -> Result<RawAt, Row>
     requires { (at + 1 ≤ length b.now) × (control < 256) }
     ensures { result ≡ raw_answer (in_range
         (closed101 b.now (span_of span) control (span_at b.now (at + 1)))) }
 {
-    let SpanRead::Read(close) = span_at(b, at + 1) else {
-        return RawRead::Bad(7);
-    };
+    let close = span_at(b, at + 1).ok_or(row::SHORT)?;
     let next = close.next;
     if b.len() - next < 8 {
-        return RawRead::Bad(7);
+        return Err(row::SHORT);
     }
     let count = word_at(b, next);
     let bytes = word_at(b, next + 4);
     let closing = close.span;
     let tree = RawSubtree {
         opening: span,
-        closing: closing,
+        closing,
         len: Descendants(count),
         kind: control / 8,
     };
     in_range(RawTree::Subtree(tree), next + 8, ChildrenBytes(bytes))
 }
 
-fn form_110(b: &[u8], at: usize, control: u32, span: PackedSpan) -> RawRead
+fn form_110(b: &[u8], at: usize, control: u32, span: PackedSpan) -> Result<RawAt, Row>
     requires { (at + 1 ≤ length b.now) × (control < 256) }
     ensures { result ≡ raw_answer (in_range (form110 b.now (span_of span) at control)) }
 {
     if b.len() - at < 5 {
-        return RawRead::Bad(7);
+        return Err(row::SHORT);
     }
     let char = word_at(b, at + 1);
     let tree = RawPunct {
-        span: span,
-        char: char,
+        span,
+        char,
         spacing: control / 8,
     };
     in_range(RawTree::Punct(tree), at + 5, ChildrenBytes(0))
@@ -190,19 +192,17 @@ fn literal_at(
     kind: u32,
     raw_count: u32,
     suffix_len: u32,
-) -> RawRead
+) -> Result<RawAt, Row>
     ensures { result ≡ raw_answer (in_range
         (literal_of (span_of span) kind raw_count suffix_len (symbol_at b.now at))) }
 {
-    let SymbolRead::Read(symbol) = decode_symbol(b, at) else {
-        return RawRead::Bad(7);
-    };
+    let symbol = decode_symbol(b, at).ok_or(row::SHORT)?;
     let tree = RawLiteral {
-        span: span,
+        span,
         symbol: symbol.index,
-        kind: kind,
-        raw_count: raw_count,
-        suffix_len: suffix_len,
+        kind,
+        raw_count,
+        suffix_len,
     };
     in_range(RawTree::Literal(tree), symbol.next, ChildrenBytes(0))
 }
@@ -227,7 +227,7 @@ fn short_raw_count(low: u32) -> u32
 }
 
 // Str, StrRaw(0), StrRaw(1) and Integer, by the low four bits.
-fn form_short(b: &[u8], at: usize, control: u32, span: PackedSpan) -> RawRead
+fn form_short(b: &[u8], at: usize, control: u32, span: PackedSpan) -> Result<RawAt, Row>
     requires { (at + 1 ≤ length b.now) × (control < 256) }
     ensures { result ≡ raw_answer (in_range (form_short b.now (span_of span) at control)) }
 {
@@ -237,29 +237,29 @@ fn form_short(b: &[u8], at: usize, control: u32, span: PackedSpan) -> RawRead
 }
 
 // A kind above 10 is refused before a further byte is asked for.
-fn form_111(b: &[u8], at: usize, control: u32, span: PackedSpan) -> RawRead
+fn form_111(b: &[u8], at: usize, control: u32, span: PackedSpan) -> Result<RawAt, Row>
     requires { (at + 1 ≤ length b.now) × (control < 256) }
     ensures { result ≡ raw_answer (in_range (form111 b.now (span_of span) at control)) }
 {
     let kind = control / 8;
     if 10 < kind {
-        return RawRead::Bad(2);
+        return Err(row::FIELD);
     }
     if b.len() - at < 2 {
-        return RawRead::Bad(7);
+        return Err(row::SHORT);
     }
     let first = byte_at(b, at + 1);
     if !is_raw_kind(kind) {
         return literal_at(b, at + 2, span, kind, 0, first);
     }
     if b.len() - at < 3 {
-        return RawRead::Bad(7);
+        return Err(row::SHORT);
     }
     let second = byte_at(b, at + 2);
     literal_at(b, at + 3, span, kind, first, second)
 }
 
-fn control_at(b: &[u8], at: usize, control: u32, span: PackedSpan) -> RawRead
+fn control_at(b: &[u8], at: usize, control: u32, span: PackedSpan) -> Result<RawAt, Row>
     requires { (at + 1 ≤ length b.now) × (control < 256) }
     ensures { result ≡ raw_answer (in_range (controlled b.now (span_of span) at control)) }
 {
@@ -275,25 +275,23 @@ fn control_at(b: &[u8], at: usize, control: u32, span: PackedSpan) -> RawRead
     }
 }
 
-fn ascii_punct(span: PackedSpan, extra: u32, x: u32, next: usize) -> RawRead
+fn ascii_punct(span: PackedSpan, extra: u32, x: u32, next: usize) -> Result<RawAt, Row>
     ensures { result ≡ raw_answer (in_range (got (punct (span_of span) (x / 2) (x % 2 + 2 * (extra / 2))) next 0)) }
 {
     let tree = RawPunct {
-        span: span,
+        span,
         char: x / 2,
         spacing: x % 2 + 2 * (extra / 2),
     };
     in_range(RawTree::Punct(tree), next, ChildrenBytes(0))
 }
 
-fn ident_at(b: &[u8], at: usize, span: PackedSpan) -> RawRead
+fn ident_at(b: &[u8], at: usize, span: PackedSpan) -> Result<RawAt, Row>
     ensures { result ≡ raw_answer (in_range (ident_of (span_of span) (symbol_at b.now at))) }
 {
-    let SymbolRead::Read(symbol) = decode_symbol(b, at) else {
-        return RawRead::Bad(7);
-    };
+    let symbol = decode_symbol(b, at).ok_or(row::SHORT)?;
     let tree = RawIdent {
-        span: span,
+        span,
         symbol: symbol.index,
         raw: symbol.tag,
     };
@@ -301,23 +299,20 @@ fn ident_at(b: &[u8], at: usize, span: PackedSpan) -> RawRead
 }
 
 // The tree at a place, with its fields in range, or 7 or 2.
-pub(crate) fn raw_at(b: &[u8], at: usize) -> RawRead
+pub(crate) fn raw_at(b: &[u8], at: usize) -> Result<RawAt, Row>
     ensures { result ≡ raw_answer (in_range (tree_at b.now at)) }
 {
-    let SpanRead::Read(head) = span_at(b, at) else {
-        return RawRead::Bad(7);
-    };
+    let head = span_at(b, at).ok_or(row::SHORT)?;
     let next = head.next;
-    let span = head.span;
     if b.len() - next < 1 {
-        return RawRead::Bad(7);
+        return Err(row::SHORT);
     }
     let x = byte_at(b, next);
     if head.extra % 2 == 1 {
-        return ascii_punct(span, head.extra, x, next + 1);
+        return ascii_punct(head.span, head.extra, x, next + 1);
     }
     if head.extra / 2 == 1 {
-        return ident_at(b, next, span);
+        return ident_at(b, next, head.span);
     }
-    control_at(b, next, x, span)
+    control_at(b, next, x, head.span)
 }

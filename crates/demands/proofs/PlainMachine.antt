@@ -2,10 +2,9 @@
 use Prim.Native.Nat.{ℕ}
 use mathlib.Core.Path.{◌≡◌}
 use mathlib.Core.List.{List, []}
+use Rattle.std.specs.Prelude.{Result, Ok, ⊤}
 use Rattle.format.specs.Buffer.{own_reader, buffer_check}
 use Rattle.tree.specs.Refusal.{verdict_answer}
-use Rattle.tree.specs.declared.refusal.Verdict.{Verdict}
-use Rattle.tree.specs.declared.refusal.Verdict.TheVariants.{Passed}
 use Rattle.format.proofs.OwnReported.{reported_listing, reported_places}
 use Rattle.checker.proofs.Admits.{passes}
 use Rattle.walk.specs.Run.{Ran}
@@ -15,9 +14,10 @@ use Rattle.walk.proofs.LastRule.{within_rule, within_report_rule}
 use Rattle.cursor.proofs.CursorRule as cursor
 use Rattle.cursor.proofs.CursorRule.{cursor_rule, fresh_rule, fresh_report_rule}
 use Rattle.demands.specs.PlainMachine.{AsPlain, AsPlainReported}
+use Rattle.tree.specs.declared.refusal.Refusal.{Refusal}
 
 -- r is the answer of `check_buffer`
-pub passed_plain : (b : List ℕ) (k : ℕ) (parts symbols : List ℕ) (r : Verdict) → r ≡ verdict_answer (buffer_check b k parts symbols) → r ≡ Passed
+pub passed_plain : (b : List ℕ) (k : ℕ) (parts symbols : List ℕ) (r : Result ⊤ Refusal) → r ≡ verdict_answer (buffer_check b k parts symbols) → r ≡ Ok tt
     → AsPlain b k parts symbols
 unfolding own_reader Ran
 passed_plain b k parts symbols r says e =
@@ -32,7 +32,7 @@ passed_plain b k parts symbols r says e =
     }
 
 -- with reports
-pub passed_reported : (b : List ℕ) (k : ℕ) (parts symbols : List ℕ) (r : Verdict) → r ≡ verdict_answer (buffer_check b k parts symbols) → r ≡ Passed
+pub passed_reported : (b : List ℕ) (k : ℕ) (parts symbols : List ℕ) (r : Result ⊤ Refusal) → r ≡ verdict_answer (buffer_check b k parts symbols) → r ≡ Ok tt
     → AsPlainReported b k parts symbols
 unfolding own_reader Ran
 passed_reported b k parts symbols r says e =

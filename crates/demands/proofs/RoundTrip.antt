@@ -9,6 +9,7 @@ use native.Mathlib.Numerals.{add-one}
 use borrow.Author.Tests.{ne_eqb}
 use lib.Dec.{eqb}
 use lib.ListN.{length, take, replicate}
+use Rattle.std.specs.Prelude.{Result, Ok, Err, ⊤}
 use Rattle.format.specs.Verdict.{passed}
 use Rattle.format.specs.Walk.{WalkCall, advance}
 use Rattle.format.specs.Plain.{Listing, plain_walk_run}
@@ -18,12 +19,8 @@ use Rattle.format.specs.Writer.{list_verdict, packed}
 use Rattle.format.specs.MakeTables.{part_total, symbol_table}
 use Rattle.tree.specs.Refusal.{verdict_answer}
 use Rattle.tree.specs.declared.refusal.Refusal.{Refusal}
-use Rattle.tree.specs.declared.refusal.Verdict.{Verdict}
-use Rattle.tree.specs.declared.refusal.Report.{Report}
-use Rattle.tree.specs.declared.refusal.Report.TheVariants.{Wrote, Refused}
-use Rattle.tables.specs.Made.{TablesDone}
-use Rattle.tables.specs.declared.make.TablesReport.{TablesReport}
-use Rattle.tables.specs.declared.make.TablesReport.TheVariants.{Made}
+use Rattle.tables.specs.Made.{made_of, TablesDone}
+use Rattle.tables.specs.declared.make.Made.{Made}
 use Rattle.tables.proofs.Tabled.{tabled, made_given, room_enough}
 use Rattle.writer.specs.Written.{Written}
 use Rattle.writer.specs.Encoded.{Encodes}
@@ -67,7 +64,7 @@ pub encodes_back : (parts symbols l b : List ℕ) → Encodes parts symbols l b 
 unfolding own_reader
 encodes_back parts symbols l b e =
     let k : ℕ = list_count l in
-    let v : Verdict = verdict_answer (buffer_check b (list_count l) parts symbols) in
+    let v : Result ⊤ Refusal = verdict_answer (buffer_check b (list_count l) parts symbols) in
     let m = passed_plain b k parts symbols v refl (e.checks v refl) in
     record {
       encodes = e;
@@ -77,43 +74,43 @@ encodes_back parts symbols l b e =
 
 -- ---- over given tables: r is the answer of `encode_list`
 
-pub given_back : (parts symbols l work out : List ℕ) (r : Report) (work' out' : List ℕ) → Written parts symbols l work out r work' out'
-    → (n : ℕ) → r ≡ Wrote n → RoundTrip parts symbols l (take n out')
+pub given_back : (parts symbols l work out : List ℕ) (r : Result ℕ Refusal) (work' out' : List ℕ) → Written parts symbols l work out r work' out'
+    → (n : ℕ) → r ≡ Ok n → RoundTrip parts symbols l (take n out')
 given_back parts symbols l work out r work' out' w n e =
     encodes_back parts symbols l (take n out') (wrote parts symbols l work out r work' out' w n e).encodes
 
 -- ---- over its own tables: t is the answer of `compute_span_frequencies_and_symbols`, and what it made is lent to `encode_list`
 
-module _ (l a b c d : List ℕ) (t : TablesReport) (a' b' c' d' : List ℕ) (done : TablesDone l a b c d t a' b' c' d') (p s : ℕ) (made : t ≡ Made p s)
-    (work out : List ℕ) (r : Report) (work' out' : List ℕ) (w : Written (take (3 * p) a') (take s c') l work out r work' out') where
+module _ (l a b c d : List ℕ) (t : Result Made Refusal) (a' b' c' d' : List ℕ) (done : TablesDone l a b c d t a' b' c' d') (p s : ℕ) (made : t ≡ made_of p s)
+    (work out : List ℕ) (r : Result ℕ Refusal) (work' out' : List ℕ) (w : Written (take (3 * p) a') (take s c') l work out r work' out') where
   silent : list_verdict (take (3 * p) a') (take s c') l ≡ passed
   silent = (tabled l a b c d t a' b' c' d' done p s made).writes
 
   -- bytes or 6
-  pub own_six : (x : Refusal) → r ≡ Refused x → (x.number ≡ 6) × (x.tree ≡ 0)
+  pub own_six : (x : Refusal) → r ≡ Err x → (x.number ≡ 6) × (x.tree ≡ 0)
   own_six = six_alone (take (3 * p) a') (take s c') l work out r work' out' w silent
 
-  pub own_wrote : list_count l + 1 ≤ length work → 33 * list_count l ≤ length out → r ≡ Wrote (length (packed (take (3 * p) a') (take s c') l))
+  pub own_wrote : list_count l + 1 ≤ length work → 33 * list_count l ≤ length out → r ≡ Ok (length (packed (take (3 * p) a') (take s c') l))
   own_wrote h g =
       wrote_given (take (3 * p) a') (take s c') l work out r work' out' w silent h
       (bytes_enough (take (3 * p) a') (take s c') l out g)
 
-  pub own_back : (n : ℕ) → r ≡ Wrote n → RoundTrip (take (3 * p) a') (take s c') l (take n out')
+  pub own_back : (n : ℕ) → r ≡ Ok n → RoundTrip (take (3 * p) a') (take s c') l (take n out')
   own_back = given_back (take (3 * p) a') (take s c') l work out r work' out' w
 
 -- DEMAND 2 of every list within the limits: with six, two, one and one words a tree for the tables, a work word a tree and one more, and 33 bytes a
 -- tree, nothing is refused, and the bytes give the list back
 pub list_back : (l a b c d : List ℕ) → list_rows l ≡ passed
     → 6 * list_count l ≤ length a → 2 * list_count l ≤ length b → list_count l ≤ length c → list_count l ≤ length d
-    → (t : TablesReport) (a' b' c' d' : List ℕ) → TablesDone l a b c d t a' b' c' d'
-    → (p : ℕ) × (s : ℕ) × (t ≡ Made p s)
+    → (t : Result Made Refusal) (a' b' c' d' : List ℕ) → TablesDone l a b c d t a' b' c' d'
+    → (p : ℕ) × (s : ℕ) × (t ≡ made_of p s)
     × ((work out : List ℕ) → list_count l + 1 ≤ length work → 33 * list_count l ≤ length out
-    → (r : Report) (work' out' : List ℕ) → Written (take (3 * p) a') (take s c') l work out r work' out'
-    → (n : ℕ) × (r ≡ Wrote n) × RoundTrip (take (3 * p) a') (take s c') l (take n out'))
+    → (r : Result ℕ Refusal) (work' out' : List ℕ) → Written (take (3 * p) a') (take s c') l work out r work' out'
+    → (n : ℕ) × (r ≡ Ok n) × RoundTrip (take (3 * p) a') (take s c') l (take n out'))
 list_back l a b c d rows ha hb hc hd t a' b' c' d' done =
     let p : ℕ = part_total l in
     let s : ℕ = length (symbol_table l) in
-    let made : t ≡ Made p s =
+    let made : t ≡ made_of p s =
     made_given l a b c d t a' b' c' d' done rows (room_enough l (length a) (length b) (length c) (length d) rows ha hb hc hd) in (
       p,
       s,

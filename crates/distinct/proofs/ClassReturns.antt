@@ -3,21 +3,24 @@ use Prim.Native.Nat.{ℕ, zero, suc, ◌+◌, ◌-◌, ◌<◌, ◌≤◌}
 use mathlib.Core.Path.{◌≡◌, refl, ap, ap₂, sym, ◌∙◌, subst}
 use mathlib.Core.Bool.{Bool, true, false, ◌&&◌}
 use mathlib.Core.Logic.{⊎_elim}
-use mathlib.Core.List.{List}
+use mathlib.Core.List.{List, ◌++◌}
 use native.Mathlib.Omega.{arith}
-use lib.ListN.{length, get_or, set, replicate, length-set, length-replicate}
-use lib.Seq.{get_or-set_same, get_or-set_other, take_all}
+use lib.ListN.{length, get_or, take, drop, length-append, length-drop, get_or-append}
+use lib.Seq.{take_all, get_or-append_right, drop-drop}
+use Rattle.std.proofs.Common.{append_assoc}
+use Rattle.std.proofs.lemmas.List.{get_or-take, get_or-drop, length-take-le}
 use lib.Dec.{ltb}
 use Rattle.std.specs.Prelude.{if◌then◌else◌}
+use Rattle.std.specs.Prelude.{Option, None, Some}
 use Rattle.format.specs.Distinct.{tally, news}
-use Rattle.format.proofs.Tally.{amount, lt_or_le, lt_ne, tally_all, tally_same, amount_all}
+use Rattle.format.proofs.Tally.{amount, lt_or_le, tally_all, tally_same, amount_all}
 use Rattle.format.specs.MakeTables.{alike_at, key_count, limit_of, keys_of, times_of}
 use Rattle.format.proofs.NewsLaw.{news_live}
 use Rattle.format.proofs.TableKeys.{keys_many, keys_most}
 use Rattle.keys.specs.Keys.{class_of, live_in}
-use Rattle.distinct.specs.Gathered.{Gathered, FilledIf}
+use Rattle.distinct.specs.Gathered.{Gathered, Filled, FilledIf}
 use Rattle.keys.specs.Runs.{Room, Behind}
-use Rattle.distinct.specs.Classes.{Copied, below, Held, HeldIf, ClassIf, Scratched, PairedIf, NumberIf}
+use Rattle.distinct.specs.Classes.{Copied, below, Held, Joined, ClassIf, Scratched, PairedIf}
 use Rattle.slots.proofs.Cases.{kept}
 use Rattle.keys.proofs.RunLaw.{behind_none, behind_then, in_least}
 use Rattle.distinct.proofs.Amounts.{tally_take}
@@ -25,41 +28,35 @@ use Rattle.distinct.proofs.ClassLaw.{amount_most, in_times, news_more, news_zero
 
 -- ---- a copy
 
-pub stored_as : (b : List ℕ) (i x y : ℕ) → x ≡ y → set b i x ≡ set b i y
-stored_as b i x y e = ap (set b i) e
+module _ (at q : ℕ) (f b : List ℕ) where
+  -- what stands there after the library's copy of the first q elements
+  copied_as : q ≤ length f → at + q ≤ length b → Copied at q f b (take at b ++ take q f ++ drop (at + q) b)
+  copied_as h g =
+      let a : length (take at b) ≡ at = length-take-le at b (omega arith) in
+      let d : length (take q f) ≡ q = length-take-le q f h in
+      let s : length (take at b ++ take q f) ≡ at + q = length-append (take at b) (take q f) ∙ ap₂ (λ (x y : ℕ). x + y) a d in
+      record {
+        size = length-append (take at b ++ take q f) (drop (at + q) b) ∙ ap₂ (λ (x y : ℕ). x + y) s (length-drop (at + q) b) ∙ (omega arith);
+        same = λ e h.
+            get_or-append (take at b ++ take q f) (drop (at + q) b) 0 (at + e) (omega arith)
+            ∙ get_or-append_right (take at b) (take q f) (at + e) 0 (omega arith)
+            ∙ ap (λ (x : ℕ). get_or (take q f) x 0) (let i : at + e - length (take at b) ≡ e = omega arith in i)
+            ∙ get_or-take q f e 0 h;
+        front = λ i h.
+            get_or-append (take at b ++ take q f) (drop (at + q) b) 0 i (omega arith)
+            ∙ get_or-append (take at b) (take q f) 0 i (omega arith)
+            ∙ get_or-take at b i 0 h;
+        rest = λ i h.
+            get_or-append_right (take at b ++ take q f) (drop (at + q) b) i 0 (omega arith)
+            ∙ get_or-drop (at + q) b (i - length (take at b ++ take q f)) 0
+            ∙ ap (λ (x : ℕ). get_or b x 0) (let j : at + q + (i - length (take at b ++ take q f)) ≡ i = omega arith in j);
+      }
 
-module _ (at : ℕ) (f b : List ℕ) where
-  pub copied_none : Copied at 0 f b b
-  copied_none = record { size = refl; same = λ e h. absurd (omega arith); front = λ i h. refl; rest = λ i h. refl }
+  pub copied : (m : List ℕ) (k : ℕ) → q ≤ length f → at + q ≤ length b → m ≡ take q f → k ≡ q → Copied at q f b (take at b ++ (m ++ drop k (drop at b)))
+  copied m k h g em ek = let e : drop k (drop at b) ≡ drop (at + q) b = ap (λ (x : ℕ). drop x (drop at b)) ek ∙ drop-drop q at b in rw (em, e, ← append_assoc) (copied_as h g)
 
-  module _ (e : ℕ) (b₁ : List ℕ) (S : Copied at e f b b₁) where
-    pub copied_more : (q : ℕ) (b₂ : List ℕ) → e < q → at + q ≤ length b → b₂ ≡ set b₁ (at + e) (get_or f e 0) → Copied at (e + 1) f b b₂
-    copied_more q b₂ h g eb =
-        let x : ℕ = get_or f e 0 in
-        let k : at + e < length b₁ = omega (arith, S.size) in
-        rw eb (record {
-          size = length-set b₁ (at + e) x ∙ S.size;
-          same = λ i l. ⊎_elim
-              (λ y. get_or-set_other b₁ (at + e) (at + i) x 0 (lt_ne (at + i) (at + e) (omega arith)) ∙ S.same i y)
-              (λ y. let z : i ≡ e = omega arith in rw z (get_or-set_same b₁ (at + e) x 0 k))
-              (lt_or_le i e);
-          front = λ i l. get_or-set_other b₁ (at + e) i x 0 (lt_ne i (at + e) (omega arith)) ∙ S.front i l;
-          rest = λ i l. get_or-set_other b₁ (at + e) i x 0 (above i l) ∙ S.rest i (omega arith);
-        })
-      where
-        above : (i : ℕ) → at + (e + 1) ≤ i → i ≡ at + e → ⊥
-        above i l z = absurd (omega arith)
-
-    pub copied_all : (q : ℕ) → e ≤ q → q ≤ e → Copied at q f b b₁
-    copied_all q x y = let z : e ≡ q = omega arith in rw z at S
-
-  pub copied_size : (q : ℕ) (b₁ : List ℕ) → Copied at q f b b₁ → length b₁ ≡ length b
-  copied_size q b₁ S = S.size
-
-  copied_behind : (q : ℕ) (b₁ : List ℕ) → Copied at q f b b₁ → Behind (at + q) b b₁
-  copied_behind q b₁ S = record { size = S.size; rest = S.rest }
-
-pub ruleset copy_cases = (kept, stored_as, copied_none, copied_more, copied_all, copied_size)
+  copied_behind : (b₁ : List ℕ) → Copied at q f b b₁ → Behind (at + q) b b₁
+  copied_behind b₁ S = record { size = S.size; rest = S.rest }
 
 -- ---- one class joins
 
@@ -120,32 +117,25 @@ module _ (l : List ℕ) (s : Bool) (C : ℕ) where
               ∙ in_times l s C k many (get_or new e 0) (news_live (live_in l s C k) (alike_at l s) (key_count l s) e (omega (arith, G.number)))
               ∙ ap (times_of l s) (sym a)
 
-module _ (l : List ℕ) (s : Bool) (C k m N n q : ℕ) (tb f c : List ℕ) (F : FilledIf m l s C k N n q tb f c) (e : n ≡ key_count l s) (w t : List ℕ) (at : ℕ) where
-  pub class_over : m < q → HeldIf l s C m k at q w w t t
-  class_over h = record { held = λ g. absurd (omega arith); words = λ g. absurd (omega arith); tallies = λ g. absurd (omega arith); none = λ _. (refl, refl) }
+module _ (l : List ℕ) (s : Bool) (C k N q : ℕ) (tb f c : List ℕ) (F : Filled l s C k N (key_count l s) q tb f c) (w t : List ℕ) (at : ℕ) (many : 1 < C)
+    (H : Held l s C k at w t) where
+  most : at + q ≤ length (keys_of l s)
+  most = joined_most l s C k at w t H q f c F.gathered many
 
-  module _ (h : q ≤ m) (many : 1 < C) (H : Held l s C k at w t) where
-    gathered : Gathered (live_in l s C k) (alike_at l s) (key_count l s) q f c
-    gathered = rw e at (F.filled h).gathered
+  pub class_words : Room l s w t → at + q ≤ length w
+  class_words R = let a = most in let b = in_least s (length (keys_of l s)) in omega (arith, R.words)
 
-    most : at + q ≤ length (keys_of l s)
-    most = joined_most l s C k at w t H q f c gathered many
+  pub class_tallies : Room l s w t → at + q ≤ length t
+  class_tallies R = let a = most in omega (arith, R.tallies)
 
-    pub class_words : Room l s w t → at + q ≤ length w
-    class_words R = let a = most in let b = in_least s (length (keys_of l s)) in omega (arith, R.words)
+  pub class_joined : (w' t' : List ℕ) → Copied at q f w w' → Copied at q c t t' → Joined l s C k at q w w' t t'
+  class_joined w' t' W T = record {
+    held = joined l s C k at w t H q f c F.gathered many w' t' W T;
+    words = copied_behind at q f w w' W;
+    tallies = copied_behind at q c t t' T;
+  }
 
-    pub class_tallies : Room l s w t → at + q ≤ length t
-    class_tallies R = let a = most in omega (arith, R.tallies)
-
-    pub class_joined : (w' t' : List ℕ) → Copied at q f w w' → Copied at q c t t' → HeldIf l s C m k at q w w' t t'
-    class_joined w' t' W T = record {
-      held = λ _. joined l s C k at w t H q f c gathered many w' t' W T;
-      words = λ _. copied_behind at f w q w' W;
-      tallies = λ _. copied_behind at c t q t' T;
-      none = λ g. absurd (omega arith);
-    }
-
-pub ruleset class_cases = (kept, class_over, class_words, class_tallies, class_joined)
+pub ruleset class_cases = (kept, class_words, class_tallies, class_joined)
 
 -- ---- all classes
 
@@ -161,32 +151,31 @@ module _ (l : List ℕ) (s : Bool) (C : ℕ) (w t : List ℕ) (k p : ℕ) (w₁ 
   pub class_room : Room l s w t → Room l s w₁ t₁
   class_room R = record { words = rw A.size R.words; tallies = rw B.size R.tallies }
 
-  module _ (m q : ℕ) (w₂ t₂ : List ℕ) (I : HeldIf l s C m k p q w₁ w₂ t₁ t₂) where
-    pub class_fails : m < q → PairedIf l s 4294967295 w w₂ t t₂
-    class_fails h =
-        let z = I.none h in
-        rw (z.0, z.1) (record { scratched = scratched; paired = λ g. absurd (omega arith) })
+  pub class_few : PairedIf l s None w w₁ t t₁
+  class_few = record { scratched = scratched; paired = tt }
 
-    pub class_held : q ≤ m → Held l s C (k + 1) (p + q) w₂ t₂
-    class_held h = I.held h
+  -- a class has too many keys
+  pub class_fails : (w₂ t₂ : List ℕ) → (w₂ ≡ w₁) × (t₂ ≡ t₁) → PairedIf l s None w w₂ t t₂
+  class_fails w₂ t₂ z = rw (z.0, z.1) class_few
 
-    pub class_words_on : q ≤ m → Behind (p + q) w w₂
-    class_words_on h = behind_then (p + q) w w₁ w₂ (behind_wider p (p + q) w w₁ (omega arith) A) (I.words h)
+  module _ (q : ℕ) (w₂ t₂ : List ℕ) (I : Joined l s C k p q w₁ w₂ t₁ t₂) where
+    pub class_held : Held l s C (k + 1) (p + q) w₂ t₂
+    class_held = I.held
 
-    pub class_tallies_on : q ≤ m → Behind (p + q) t t₂
-    class_tallies_on h = behind_then (p + q) t t₁ t₂ (behind_wider p (p + q) t t₁ (omega arith) B) (I.tallies h)
+    pub class_words_on : Behind (p + q) w w₂
+    class_words_on = behind_then (p + q) w w₁ w₂ (behind_wider p (p + q) w w₁ (omega arith) A) I.words
 
-    pub class_fits : (n : ℕ) → q ≤ m → n ≡ key_count l s → p + q ≤ n
-    class_fits n h e =
-        let a = held_most l s C (k + 1) (p + q) w₂ t₂ (I.held h) in
+    pub class_tallies_on : Behind (p + q) t t₂
+    class_tallies_on = behind_then (p + q) t t₁ t₂ (behind_wider p (p + q) t t₁ (omega arith) B) I.tallies
+
+    pub class_fits : p + q ≤ key_count l s
+    class_fits =
+        let a = held_most l s C (k + 1) (p + q) w₂ t₂ I.held in
         let b = keys_many l s in
         let c = keys_most l s in
         omega arith
 
-  pub class_few : PairedIf l s 4294967295 w w₁ t t₁
-  class_few = record { scratched = scratched; paired = λ g. absurd (omega arith) }
-
-  pub class_every : (lim : ℕ) → 1 < C → k ≤ C → C ≤ k → lim ≡ limit_of s → lim < p → PairedIf l s p w w₁ t t₁
+  pub class_every : (lim : ℕ) → 1 < C → k ≤ C → C ≤ k → lim ≡ limit_of s → lim < p → PairedIf l s (Some p) w w₁ t t₁
   class_every lim many a b el h =
       let e : k ≡ C = omega arith in
       let every : (f : ℕ → Bool) → tally (λ i. f (get_or w₁ i 0)) p ≡ amount f (keys_of l s) = λ f.
@@ -194,7 +183,7 @@ module _ (l : List ℕ) (s : Bool) (C : ℕ) (w t : List ℕ) (k p : ℕ) (w₁ 
       let n : p ≡ length (keys_of l s) = sym (tally_all (λ i. true) p (λ i. refl)) ∙ every (λ v. true) ∙ amount_all (keys_of l s) in
       record {
         scratched = scratched;
-        paired = λ _. record { number = n; keys = every; counts = H.counts; turn = λ g. absurd (omega arith) };
+        paired = record { number = n; keys = every; counts = H.counts; turn = λ g. absurd (omega arith) };
       }
 
 pub ruleset by_class_cases = (kept, behind_none, held_none, class_room, class_fails, class_held, class_words_on, class_tallies_on, class_fits, class_few, class_every)
@@ -209,10 +198,10 @@ module _ (l : List ℕ) (s : Bool) where
     pub scratched_room : Room l s w t → Room l s w₁ t₁
     scratched_room R = record { words = rw S.words.size R.words; tallies = rw S.tallies.size R.tallies }
 
-    pub scratched_unknown : PairedIf l s 4294967295 w w₁ t t₁
-    scratched_unknown = record { scratched = S; paired = λ g. absurd (omega arith) }
+    pub scratched_unknown : PairedIf l s None w w₁ t t₁
+    scratched_unknown = record { scratched = S; paired = tt }
 
-    module _ (r : ℕ) (w₂ t₂ : List ℕ) (P : PairedIf l s r w₁ w₂ t₁ t₂) where
+    module _ (r : Option ℕ) (w₂ t₂ : List ℕ) (P : PairedIf l s r w₁ w₂ t₁ t₂) where
       pub scratched_then : Scratched l s w w₂ t t₂
       scratched_then = record {
         words = behind_then (length (keys_of l s)) w w₁ w₂ S.words P.scratched.words;
@@ -226,9 +215,9 @@ pub ruleset by_classes_cases = (kept, scratched_none, scratched_room, scratched_
 
 -- ---- numbers alone
 
-pub class_known : (l : List ℕ) (s : Bool) (C k m N n q : ℕ) (tb f c : List ℕ) → FilledIf (length (replicate {A = ℕ} m 0)) l s C k N n q tb f c → n ≡ key_count l s → ClassIf l s C m k q
-class_known l s C k m N n q tb f c F e =
-    record { known = λ h. (rw e at (F.filled (rw (length-replicate {A = ℕ} m 0) h)).gathered).number }
+pub class_known : (l : List ℕ) (s : Bool) (C k m N : ℕ) (q : Option ℕ) (tb f c : List ℕ) → FilledIf m l s C k N (key_count l s) q tb f c → ClassIf l s C k q
+class_known l s C k m N None tb f c F = tt
+class_known l s C k m N (Some q) tb f c F = F.1.gathered.number
 
 module _ (l : List ℕ) (s : Bool) (C : ℕ) where
   plain : (k : ℕ) → amount (λ v. true && ltb (class_of l s C v) k) (keys_of l s) ≡ below l s C k
@@ -238,27 +227,25 @@ module _ (l : List ℕ) (s : Bool) (C : ℕ) where
   pub below_none : 0 ≡ below l s C 0
   below_none = sym (sym (plain 0) ∙ news_zero l s C (λ v. true))
 
-  pub below_more : (k p m q : ℕ) → p ≡ below l s C k → ClassIf l s C m k q → q ≤ m → 1 < C → p + q ≡ below l s C (k + 1)
-  below_more k p m q e K h many =
-      let a : q ≡ amount (λ v. true) (news (live_in l s C k) (alike_at l s) (key_count l s)) = K.known h ∙ sym (amount_all _) in
-      let b : below l s C (k + 1) ≡ below l s C k + amount (λ v. true) (news (live_in l s C k) (alike_at l s) (key_count l s)) =
-      sym (plain (k + 1)) ∙ news_more l s C (λ v. true) k many ∙ ap (λ (x : ℕ). x + amount (λ v. true) (news (live_in l s C k) (alike_at l s) (key_count l s))) (plain k) in
-      omega arith
+  module _ (k p q : ℕ) (e : p ≡ below l s C k) (K : q ≡ length (news (live_in l s C k) (alike_at l s) (key_count l s))) (many : 1 < C) where
+    pub below_more : p + q ≡ below l s C (k + 1)
+    below_more =
+        let a : q ≡ amount (λ v. true) (news (live_in l s C k) (alike_at l s) (key_count l s)) = K ∙ sym (amount_all _) in
+        let b : below l s C (k + 1) ≡ below l s C k + amount (λ v. true) (news (live_in l s C k) (alike_at l s) (key_count l s)) =
+        sym (plain (k + 1)) ∙ news_more l s C (λ v. true) k many ∙ ap (λ (x : ℕ). x + amount (λ v. true) (news (live_in l s C k) (alike_at l s) (key_count l s))) (plain k) in
+        omega arith
 
-  pub below_fits : (k p m q n : ℕ) → p ≡ below l s C k → ClassIf l s C m k q → q ≤ m → 1 < C → n ≡ key_count l s → p + q ≤ n
-  below_fits k p m q n e K h many en =
-      let a : p + q ≡ below l s C (k + 1) = below_more k p m q e K h many in
-      let b : below l s C (k + 1) ≤ length (keys_of l s) = rw (sym (plain (k + 1))) (amount_most (λ v. true && ltb (class_of l s C v) (k + 1)) (keys_of l s)) in
-      let c = keys_many l s in
-      let d = keys_most l s in
-      omega arith
+    pub below_fits : p + q ≤ key_count l s
+    below_fits =
+        let a : p + q ≡ below l s C (k + 1) = below_more in
+        let b : below l s C (k + 1) ≤ length (keys_of l s) = rw (sym (plain (k + 1))) (amount_most (λ v. true && ltb (class_of l s C v) (k + 1)) (keys_of l s)) in
+        let c = keys_many l s in
+        let d = keys_most l s in
+        omega arith
 
-  pub below_all : (k p : ℕ) → p ≡ below l s C k → 1 < C → k ≤ C → C ≤ k → NumberIf l s p
+  pub below_all : (k p : ℕ) → p ≡ below l s C k → 1 < C → k ≤ C → C ≤ k → p ≡ length (keys_of l s)
   below_all k p e many a b =
       let i : k ≡ C = omega arith in
-      record { known = λ _. e ∙ ap (below l s C) i ∙ sym (plain C) ∙ news_every l s C (λ v. true) (omega arith) ∙ amount_all (keys_of l s) }
+      e ∙ ap (below l s C) i ∙ sym (plain C) ∙ news_every l s C (λ v. true) (omega arith) ∙ amount_all (keys_of l s)
 
-pub number_unknown : (l : List ℕ) (s : Bool) → NumberIf l s 4294967295
-number_unknown l s = record { known = λ h. absurd (omega arith) }
-
-pub ruleset number_cases = (below_none, below_more, below_fits, below_all, number_unknown)
+pub ruleset number_cases = (below_none, below_more, below_fits, below_all)

@@ -1,13 +1,13 @@
 -- Laws for the functions that count the distinct keys.
 use Prim.Native.Nat.{ℕ, suc, ◌+◌, ◌<◌, ◌≤◌}
 use mathlib.Core.Path.{◌≡◌, refl, sym, ◌∙◌}
-use mathlib.Core.Bool.{Bool, true, false, ◌&&◌}
+use mathlib.Core.Bool.{Bool, true, false, not, ◌&&◌}
 use mathlib.Core.Logic.{⊎_elim}
 use mathlib.Core.List.{List, [], ◌∷◌, ◌++◌}
 use native.Mathlib.Omega.{arith}
-use lib.ListN.{length, get_or, replicate, length-replicate, length-append}
+use lib.ListN.{length, get_or, length-append}
 use lib.Dec.{leb}
-use borrow.Author.Tests.{le-leb, lt-leb, leb-true}
+use borrow.Author.Tests.{le-leb, leb-true}
 use Rattle.std.specs.Prelude.{if◌then◌else◌}
 use Rattle.format.specs.Distinct.{any_in, news}
 use Rattle.format.specs.MakeTables.{key_count, live_at, alike_at, keys_of}
@@ -16,28 +16,17 @@ use Rattle.format.proofs.Tally.{lt_or_le, any_none, any_at}
 use Rattle.format.proofs.KeyLaw.{likeness}
 use Rattle.format.proofs.NewsLaw.{news_bound, news_live, news_place}
 use Rattle.format.proofs.TableKeys.{keys_many, keys_most}
-use Rattle.keys.specs.Keys.{place_in}
-use Rattle.distinct.specs.Gathered.{FilledIf}
-use Rattle.distinct.specs.Classes.{NumberIf}
-use Rattle.distinct.specs.Count.{same_key, is_met, fresh, ample, CountIf}
-use Rattle.distinct.proofs.GatherReturns.{filled_number}
+use Rattle.keys.specs.Keys.{live_in, place_in}
+use Rattle.distinct.specs.Count.{same_key, is_met, fresh, ample}
 
 -- ---- with a hash table
 
-pub count_filled : (l : List ℕ) (s : Bool) (m N n p : ℕ) (t f c : List ℕ) → FilledIf (length (replicate {A = ℕ} m 0)) l s 1 0 N n p t f c → n ≡ key_count l s → CountIf m l s p
-count_filled l s m N n p t f c F e =
-    record { known = λ h. filled_number l s N p t f c (rw e at (F.filled (rw (length-replicate {A = ℕ} m 0) h))) }
+-- one class has all keys
+pub class_all : (l : List ℕ) (s : Bool) (p : ℕ) → p ≡ length (news (live_in l s 1 0) (alike_at l s) (key_count l s)) → p ≡ length (keys_of l s)
+unfolding keys_of live_in
+class_all l s p e = e
 
 -- ---- without
-
-module _ (l : List ℕ) (s : Bool) (u v : ℕ) (b : Bool) (e : b ≡ live_at l s u) where
-  pub same_dead : b ≡ false → false ≡ same_key l s u v
-  unfolding same_key
-  same_dead h = let y : live_at l s u ≡ false = sym e ∙ h in simp y
-
-  pub same_live : (r : Bool) → b ≡ true → r ≡ alike_at l s u v → r ≡ same_key l s u v
-  unfolding same_key
-  same_live r h q = let y : live_at l s u ≡ true = sym e ∙ h in simp y q
 
 module _ (l : List ℕ) (s : Bool) (v : ℕ) where
   -- no key below u is the same
@@ -71,33 +60,19 @@ module _ (l : List ℕ) (s : Bool) (v : ℕ) where
       U (get_or (news (live_at l s) (alike_at l s) v) r 0) (omega arith) in
       simp d at y))
 
-  module _ (b : Bool) (e : b ≡ live_at l s v) where
-    pub fresh_dead : b ≡ false → 0 ≡ fresh l s v
-    unfolding fresh
-    fresh_dead h = let y : live_at l s v ≡ false = sym e ∙ h in simp y
-
-    module _ (h : b ≡ true) (m : Bool) (q : m ≡ is_met l s v) where
-      pub fresh_met : m ≡ true → 0 ≡ fresh l s v
-      unfolding fresh
-      fresh_met k = let y : live_at l s v ≡ true = sym e ∙ h in let z : is_met l s v ≡ true = sym q ∙ k in simp (y, z)
-
-      pub fresh_one : m ≡ false → 1 ≡ fresh l s v
-      unfolding fresh
-      fresh_one k = let y : live_at l s v ≡ true = sym e ∙ h in let z : is_met l s v ≡ false = sym q ∙ k in simp (y, z)
-
-pub ruleset fresh_cases = (same_dead, same_live, unmet_none, unmet_more, met_here, met_none, fresh_dead, fresh_met, fresh_one)
+pub ruleset fresh_cases = (unmet_none, unmet_more, met_here, met_none)
 
 abbrev pub news_length : List ℕ → Bool → ℕ → ℕ
 news_length l s v = length (news (live_at l s) (alike_at l s) v)
 
-fresh_step : (l : List ℕ) (s : Bool) (v : ℕ) → news_length l s (v + 1) ≡ news_length l s v + fresh l s v
+fresh_step : (l : List ℕ) (s : Bool) (v : ℕ) → news_length l s (v + 1) ≡ news_length l s v + (if fresh l s v then 1 else 0)
 unfolding news fresh is_met
 fresh_step l s v = let e : v + 1 ≡ suc v = omega arith in rw e (go (live_at l s v) (any_in (λ u. alike_at l s u v) (news (live_at l s) (alike_at l s) v)))
   where
     ks : List ℕ
     ks = news (live_at l s) (alike_at l s) v
 
-    go : (a b : Bool) → length (if a then (if b then ks else ks ++ v ∷ []) else ks) ≡ length ks + (if a then (if b then 0 else 1) else 0)
+    go : (a b : Bool) → length (if a then (if b then ks else ks ++ v ∷ []) else ks) ≡ length ks + (if a && not b then 1 else 0)
     go true true = omega arith
     go true false = length-append ks (v ∷ [])
     go false b = omega arith
@@ -107,36 +82,20 @@ module _ (l : List ℕ) (s : Bool) where
   unfolding news
   count_none = refl
 
-  pub count_more : (v p x : ℕ) → p ≡ news_length l s v → x ≡ fresh l s v → p + x ≡ news_length l s (v + 1)
-  count_more v p x e q = rw (e, q) (sym (fresh_step l s v))
+  module _ (v p : ℕ) (b : Bool) (e : p ≡ news_length l s v) (q : b ≡ fresh l s v) where
+    pub count_more : b ≡ true → p + 1 ≡ news_length l s (v + 1)
+    count_more h = rw e (sym (rw (sym q ∙ h) at (fresh_step l s v)))
+
+    pub count_same : b ≡ false → p ≡ news_length l s (v + 1)
+    count_same h = let x : news_length l s (v + 1) ≡ news_length l s v + 0 = rw (sym q ∙ h) at (fresh_step l s v) in omega arith
 
   pub count_all : (v n p : ℕ) → p ≡ news_length l s v → v ≤ n → n ≤ v → n ≡ key_count l s → p ≡ length (keys_of l s)
   unfolding keys_of
   count_all v n p e a b q = let i : v ≡ key_count l s = omega arith in rw i at e
 
-  pub count_known : (m p : ℕ) → CountIf m l s p → p ≤ m → p ≡ length (keys_of l s)
-  count_known m p C h = C.known h
-
-  pub count_by_class : (p : ℕ) → NumberIf l s p → p < 4294967295 → p ≡ length (keys_of l s)
-  count_by_class p N h = N.known h
-
-pub ruleset count_cases = (count_by_class, count_none, count_more, count_all, count_known)
+pub ruleset count_cases = (count_none, count_more, count_same, count_all)
 
 -- ---- room
-
-module _ (s : Bool) (p more w t x : ℕ) (e : x ≡ place_in s p) where
-  pub ample_words : w < x + more → false ≡ ample s p more w t
-  unfolding ample
-  ample_words h = rw (← e) (simp (lt-leb _ _ h))
-
-  module _ (h : x + more ≤ w) where
-    pub ample_tallies : t < p → false ≡ ample s p more w t
-    unfolding ample
-    ample_tallies g = rw (← e) (simp (le-leb _ _ h, lt-leb _ _ g))
-
-    pub ample_all : p ≤ t → true ≡ ample s p more w t
-    unfolding ample
-    ample_all g = rw (← e) (simp (le-leb _ _ h, le-leb _ _ g))
 
 in_up : (s : Bool) (p n : ℕ) → p ≤ n → place_in s p ≤ place_in s n
 unfolding place_in
@@ -164,4 +123,4 @@ room_most l s n more w t b e q h =
 pub room_counted : (l : List ℕ) (s : Bool) (p more w t : ℕ) (b : Bool) → p ≡ length (keys_of l s) → b ≡ ample s p more w t → b ≡ ample s (length (keys_of l s)) more w t
 room_counted l s p more w t b e q = rw (← e) q
 
-pub ruleset room_cases = (ample_words, ample_tallies, ample_all, key_fits, room_most, room_counted)
+pub ruleset room_cases = (key_fits, room_most, room_counted)

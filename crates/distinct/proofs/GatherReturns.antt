@@ -11,7 +11,7 @@ use Rattle.format.proofs.Tally.{tally_most}
 use Rattle.format.proofs.KeyLaw.{likeness}
 use Rattle.format.proofs.NewsLaw.{news_bound}
 use Rattle.keys.specs.Keys.{live_in, slot_of}
-use Rattle.distinct.specs.Gathered.{like_rank, UpTo, Under, Filled, FilledIf}
+use Rattle.distinct.specs.Gathered.{like_rank, UpTo, Under, Filled}
 use Rattle.slots.specs.Probe.{probe, next_slot}
 use Rattle.slots.specs.declared.probe.Looked.{Looked}
 use Rattle.slots.specs.declared.probe.Looked.TheVariants.{Found, Empty}
@@ -68,9 +68,6 @@ module _ (l : List ℕ) (s : Bool) (C k N v p : ℕ) (t f c : List ℕ) (F : Fil
       let b : get_or (news (live_in l s C k) (alike_at l s) v) r 0 < v = news_bound (live_in l s C k) (alike_at l s) v r (omega (arith, F.gathered.number)) in
       omega arith
 
-  pub filled_over : (m : ℕ) → FilledIf m l s C k N (v + 1) (m + 1) t f c
-  filled_over m = record { filled = λ h. absurd (omega arith) }
-
   module _ (start : ℕ) (es : start ≡ slot_of l s N v) (q : Looked) (eq : q ≡ probe N t (like_rank l s f v) start N) where
     module _ (e : ℕ) (i : q ≡ Found e) where
       found_like : (alike_at l s (get_or f e 0) v ≡ true) × (e < p)
@@ -83,32 +80,28 @@ module _ (l : List ℕ) (s : Bool) (C k N v p : ℕ) (t f c : List ℕ) (F : Fil
           omega arith
 
       pub filled_found : (c' : List ℕ) → live_in l s C k v ≡ true → c' ≡ set c e (get_or c e 0 + 1) → p ≤ length f → length c ≡ length f
-          → FilledIf (length f) l s C k N (v + 1) p t f c'
+          → Filled l s C k N (v + 1) p t f c'
       filled_found c' d w h g =
-          record {
-            filled = λ _. rw w (record {
-              gathered = gather_found (live_in l s C k) (alike_at l s) v p f c F.gathered (likeness l s) d e found_like.1 (omega arith) found_like.0;
-              reached = F.reached;
-            });
-          }
+          rw w (record {
+            gathered = gather_found (live_in l s C k) (alike_at l s) v p f c F.gathered (likeness l s) d e found_like.1 (omega arith) found_like.0;
+            reached = F.reached;
+          })
 
     module _ (j : ℕ) (i : q ≡ Empty j) where
       pub filled_new : (x : ℕ) (t' f' c' : List ℕ) → live_in l s C k v ≡ true → start < N → p ≤ length f → (p ≡ length f → ⊥) → length c ≡ length f
           → x ≡ p + 1 → t' ≡ set t j (p + 1) → f' ≡ set f p v → c' ≡ set c p 1
-          → FilledIf (length f) l s C k N (v + 1) x t' f' c'
+          → Filled l s C k N (v + 1) x t' f' c'
       unfolding like_rank
       filled_new x t' f' c' d hs hp hn hc ex et ef ec =
           let hf : p < length f = omega arith in
           let g : probe N t (like_rank l s f v) (slot_of l s N v) N ≡ Empty j = rw (sym es) (sym eq ∙ i) in
-          record {
-            filled = λ _. rw (et, ex, ef, ec) (record {
-              gathered = gather_new (live_in l s C k) (alike_at l s) v p f c F.gathered (likeness l s) d hf (omega arith)
-                  (reach_none (alike_at l s) (slot_of l s N) N v p t f F.reached (λ a b. slot_same l N a b s) j g);
-              reached = reach_new (alike_at l s) (slot_of l s N) N v p t f F.reached (λ a b. slot_same l N a b s) j (rw es at hs) hf g;
-            });
-          }
+          rw (et, ex, ef, ec) (record {
+            gathered = gather_new (live_in l s C k) (alike_at l s) v p f c F.gathered (likeness l s) d hf (omega arith)
+                (reach_none (alike_at l s) (slot_of l s N) N v p t f F.reached (λ a b. slot_same l N a b s) j g);
+            reached = reach_new (alike_at l s) (slot_of l s N) N v p t f F.reached (λ a b. slot_same l N a b s) j (rw es at hs) hf g;
+          })
 
-pub ruleset enter_cases = (kept, filled_upto, filled_under, filled_over, found_count, filled_found, filled_new)
+pub ruleset enter_cases = (kept, filled_upto, filled_under, found_count, filled_found, filled_new)
 
 -- ---- all keys
 
@@ -117,13 +110,7 @@ module _ (l : List ℕ) (s : Bool) (C k N : ℕ) (t f c : List ℕ) where
   pub filled_size : (N' v p : ℕ) → Filled l s C k N v p t f c → N' ≡ N → Filled l s C k N' v p t f c
   filled_size N' v p F e = rw e F
 
-  pub filled_again : (m room N' v q : ℕ) → FilledIf m l s C k N' v q t f c → q ≤ room → m ≡ room → N' ≡ N → Filled l s C k N v q t f c
-  filled_again m room N' v q F h g e = rw e at (F.filled (omega arith))
-
-  pub filled_many : (m v q : ℕ) → m < q → FilledIf m l s C k N v q t f c
-  filled_many m v q h = record { filled = λ g. absurd (omega arith) }
-
-pub ruleset gather_cases = (kept, filled_size, filled_again, filled_many)
+pub ruleset gather_cases = (kept, filled_size)
 
 -- nothing is entered yet in arrays of zeros
 pub filled_none : (l : List ℕ) (s : Bool) (C k size m : ℕ) (c : List ℕ)

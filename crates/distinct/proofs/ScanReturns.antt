@@ -16,7 +16,7 @@ use Rattle.format.proofs.Tally.{lt_or_le, tally_most}
 use Rattle.distinct.specs.Gathered.{Under, Gathered}
 use Rattle.keys.specs.Keys.{place_in}
 use Rattle.keys.specs.Runs.{Room, Behind}
-use Rattle.distinct.specs.Pairs.{Sought, Scanned}
+use Rattle.distinct.specs.Pairs.{Missed, Scanned}
 use Rattle.slots.proofs.Cases.{kept}
 use Rattle.distinct.proofs.GatherLaw.{gathered_none, gather_dead, gather_found, gather_new}
 use Rattle.keys.proofs.RunLaw.{in_mono, behind_none, behind_then}
@@ -24,37 +24,31 @@ use Rattle.keys.proofs.RunLaw.{in_mono, behind_none, behind_then}
 -- ---- the search
 
 module _ (l : List ℕ) (s : Bool) (v p : ℕ) (w : List ℕ) where
-  -- none of the first e
-  unfoldable pub Missed : ℕ → Type 0
-  Missed e = (i : ℕ) → i < e → alike_at l s (get_or w i 0) v ≡ false
-
-  pub missed_none : Missed 0
+  pub missed_none : Missed l s v w 0
   unfolding Missed
   missed_none i h = absurd (omega arith)
 
-  module _ (e : ℕ) (M : Missed e) where
-    pub find_none : e ≤ p → p ≤ e → Sought l s v p w e
-    unfolding Missed
-    find_none a b = record { most = a; like = λ h. absurd (omega arith); none = M }
+  module _ (e : ℕ) (M : Missed l s v w e) where
+    pub missed_all : e ≤ p → p ≤ e → Missed l s v w p
+    missed_all a b = let z : e ≡ p = omega arith in rw z at M
 
-    module _ (u x : ℕ) (eu : u ≡ x) (ex : x ≡ get_or w e 0) (b : Bool) (q : b ≡ alike_at l s u v) where
-      pub find_found : e < p → b ≡ true → Sought l s v p w e
-      unfolding Missed
-      find_found h k = record { most = omega arith; like = λ _. rw (← ex, ← eu) (sym q ∙ k); none = M }
+    module _ (x : ℕ) (ex : x ≡ get_or w e 0) (b : Bool) (q : b ≡ alike_at l s x v) where
+      pub found_like : b ≡ true → alike_at l s (get_or w e 0) v ≡ true
+      found_like k = rw (← ex) (sym q ∙ k)
 
-      pub missed_more : b ≡ false → Missed (e + 1)
+      pub missed_more : b ≡ false → Missed l s v w (e + 1)
       unfolding Missed
       missed_more k i h =
-          ⊎_elim (λ g. M i g) (λ g. let z : i ≡ e = omega arith in rw (z, ← ex, ← eu) (sym q ∙ k)) (lt_or_le i e)
+          ⊎_elim (λ g. M i g) (λ g. let z : i ≡ e = omega arith in rw (z, ← ex) (sym q ∙ k)) (lt_or_le i e)
 
-  pub find_key : (n e x u : ℕ) → Under p n w → e < p → x ≡ get_or w e 0 → u ≡ x → u < n
+  pub find_key : (n e x : ℕ) → Under p n w → e < p → x ≡ get_or w e 0 → x < n
   unfolding Under
-  find_key n e x u U h ex eu = rw (eu ∙ ex) (U e h)
+  find_key n e x U h ex = rw ex (U e h)
 
-  pub find_word : (n e x u : ℕ) → Under p n w → e < p → x ≡ get_or w e 0 → u ≡ x → n < 4294967295 → u < 4294967295
-  find_word n e x u U h ex eu g = let k = find_key n e x u U h ex eu in omega arith
+  pub find_word : (n e x : ℕ) → Under p n w → e < p → x ≡ get_or w e 0 → n < 4294967295 → x < 4294967295
+  find_word n e x U h ex g = let k = find_key n e x U h ex in omega arith
 
-pub ruleset find_cases = (missed_none, find_none, find_found, missed_more, find_key, find_word)
+pub ruleset find_cases = (missed_none, missed_all, found_like, missed_more, find_key, find_word)
 
 -- ---- one more key
 
@@ -106,44 +100,46 @@ module _ (l : List ℕ) (s : Bool) (v p : ℕ) (w t : List ℕ) (G : Gathered (l
   pub scan_dead : (b : Bool) → b ≡ live_at l s v → b ≡ false → Scanned l s (v + 1) p w w t t
   scan_dead b e d = record { gathered = gather_dead (live_at l s) (alike_at l s) v p w t G (sym e ∙ d); words = behind_none p w; tallies = behind_none p t }
 
-  module _ (R : Room l s w t) (d : live_at l s v ≡ true) (e : ℕ) (S : Sought l s v p w e) where
-    pub scan_count : e < p → key_count l s < 4294967295 → get_or t e 0 < 4294967295
-    scan_count k g = let z : get_or t e 0 ≤ v = rw (G.counts e k) (tally_most _ v) in omega arith
+  module _ (R : Room l s w t) (d : live_at l s v ≡ true) where
+    pub scan_count : (e : ℕ) → e < p → key_count l s < 4294967295 → get_or t e 0 < 4294967295
+    scan_count e k g = let z : get_or t e 0 ≤ v = rw (G.counts e k) (tally_most _ v) in omega arith
 
-    pub scan_found : (t' : List ℕ) → e < p → t' ≡ set t e (get_or t e 0 + 1) → Scanned l s (v + 1) p w w t t'
-    scan_found t' k q =
+    pub scan_found : (e : ℕ) (t' : List ℕ) → e < p → alike_at l s (get_or w e 0) v ≡ true → t' ≡ set t e (get_or t e 0 + 1) → Scanned l s (v + 1) p w w t t'
+    scan_found e t' k a q =
         let m : p ≤ length t = let a = scan_most in omega (arith, R.tallies) in
         rw q (record {
-          gathered = gather_found (live_at l s) (alike_at l s) v p w t G (likeness l s) d e k m (S.like k);
+          gathered = gather_found (live_at l s) (alike_at l s) v p w t G (likeness l s) d e k m a;
           words = behind_none p w;
           tallies = set_behind p t e (get_or t e 0 + 1) k;
         })
 
-    none_like : p ≤ e → (r : ℕ) → r < p → alike_at l s (get_or w r 0) v ≡ false
-    none_like k r g = S.none r (omega arith)
+    module _ (M : Missed l s v w p) where
+      none_like : (r : ℕ) → r < p → alike_at l s (get_or w r 0) v ≡ false
+      unfolding Missed
+      none_like r g = M r g
 
-    -- the new key has its place, too
-    grown : p ≤ e → p + 1 ≤ length (keys_of l s)
-    unfolding keys_of
-    grown k =
-        let i : v + 1 + (key_count l s - (v + 1)) ≡ key_count l s = omega arith in
-        let a : length (news (live_at l s) (alike_at l s) (v + 1)) ≤ length (news (live_at l s) (alike_at l s) (key_count l s)) =
-        rw i at (news_longer (live_at l s) (alike_at l s) (v + 1) (key_count l s - (v + 1))) in
-        let n : news (live_at l s) (alike_at l s) (v + 1) ≡ news (live_at l s) (alike_at l s) v ++ v ∷ [] =
-        news_new (live_at l s) (alike_at l s) v d (λ r g. let y : r < p = omega (arith, G.number) in rw (sym (G.keys r y)) (none_like k r y)) in
-        let m : length (news (live_at l s) (alike_at l s) (v + 1)) ≡ length (news (live_at l s) (alike_at l s) v) + 1 =
-        ap length n ∙ length-append (news (live_at l s) (alike_at l s) v) (v ∷ []) in
-        omega (arith, G.number)
+      -- the new key has its place, too
+      grown : p + 1 ≤ length (keys_of l s)
+      unfolding keys_of
+      grown =
+          let i : v + 1 + (key_count l s - (v + 1)) ≡ key_count l s = omega arith in
+          let a : length (news (live_at l s) (alike_at l s) (v + 1)) ≤ length (news (live_at l s) (alike_at l s) (key_count l s)) =
+          rw i at (news_longer (live_at l s) (alike_at l s) (v + 1) (key_count l s - (v + 1))) in
+          let n : news (live_at l s) (alike_at l s) (v + 1) ≡ news (live_at l s) (alike_at l s) v ++ v ∷ [] =
+          news_new (live_at l s) (alike_at l s) v d (λ r g. let y : r < p = omega (arith, G.number) in rw (sym (G.keys r y)) (none_like r y)) in
+          let m : length (news (live_at l s) (alike_at l s) (v + 1)) ≡ length (news (live_at l s) (alike_at l s) v) + 1 =
+          ap length n ∙ length-append (news (live_at l s) (alike_at l s) v) (v ∷ []) in
+          omega (arith, G.number)
 
-    pub scan_new : (x : ℕ) (w' t' : List ℕ) → p ≤ e → x ≡ p + 1 → w' ≡ set w p v → t' ≡ set t p 1 → Scanned l s (v + 1) x w w' t t'
-    scan_new x w' t' k ex ew et =
-        let g = grown k in
-        let hw : p + 1 ≤ length w = in_room s (p + 1) (length w) (let y = in_mono s p (length (keys_of l s)) (omega arith) in omega (arith, R.words)) in
-        rw (ex, ew, et) (record {
-          gathered = gather_new (live_at l s) (alike_at l s) v p w t G (likeness l s) d (omega arith) (omega (arith, R.tallies)) (none_like k);
-          words = set_behind (p + 1) w p v (omega arith);
-          tallies = set_behind (p + 1) t p 1 (omega arith);
-        })
+      pub scan_new : (x : ℕ) (w' t' : List ℕ) → x ≡ p + 1 → w' ≡ set w p v → t' ≡ set t p 1 → Scanned l s (v + 1) x w w' t t'
+      scan_new x w' t' ex ew et =
+          let g = grown in
+          let hw : p + 1 ≤ length w = in_room s (p + 1) (length w) (let y = in_mono s p (length (keys_of l s)) (omega arith) in omega (arith, R.words)) in
+          rw (ex, ew, et) (record {
+            gathered = gather_new (live_at l s) (alike_at l s) v p w t G (likeness l s) d (omega arith) (omega (arith, R.tallies)) none_like;
+            words = set_behind (p + 1) w p v (omega arith);
+            tallies = set_behind (p + 1) t p 1 (omega arith);
+          })
 
 pub told_true : (x b : Bool) → b ≡ x → b ≡ true → x ≡ true
 told_true x b e h = sym e ∙ h

@@ -6,7 +6,7 @@ use mathlib.Core.List.{List}
 use native.Mathlib.Omega.{arith}
 use lib.ListN.{length, get_or, set, replicate, length-replicate}
 use borrow.Author.Tests.{le-leb}
-use Rattle.std.specs.Prelude.{if◌then◌else◌}
+use Rattle.std.specs.Prelude.{Option}
 use Rattle.format.specs.MakeTables.{key_count}
 use Rattle.keys.specs.Keys.{live_in}
 use Rattle.distinct.specs.Select.{number_of, trees_of, lead_of, Selected}
@@ -33,13 +33,7 @@ pub trees_parts : (s : Bool) (n : ℕ) → s ≡ false → n / 2 ≡ trees_of s 
 unfolding trees_of
 trees_parts s n e = rw e
 
-pub one_live : (l : List ℕ) (s : Bool) (C k v : ℕ) (b : Bool) → b ≡ live_in l s C k v → b ≡ true → ◌≡◌ {A = ℕ} 1 (if live_in l s C k v then 1 else 0)
-one_live l s C k v b e h = let q : live_in l s C k v ≡ true = sym e ∙ h in simp q
-
-pub one_dead : (l : List ℕ) (s : Bool) (C k v : ℕ) (b : Bool) → b ≡ live_in l s C k v → b ≡ false → ◌≡◌ {A = ℕ} 0 (if live_in l s C k v then 1 else 0)
-one_dead l s C k v b e h = let q : live_in l s C k v ≡ false = sym e ∙ h in simp q
-
-pub ruleset number_cases = (number_symbols, number_parts, trees_symbols, trees_parts, one_live, one_dead)
+pub ruleset number_cases = (number_symbols, number_parts, trees_symbols, trees_parts)
 
 -- ---- choosing
 
@@ -50,9 +44,15 @@ module _ (l : List ℕ) (s : Bool) (C k a z m : ℕ) (b : List ℕ) (S : Selecte
   pub choose_fits : (d : ℕ) → z < 4294967295 → d ≤ 1 → m + d ≤ 18446744073709551615
   choose_fits d h g = omega (arith, S.most)
 
-  pub choose_one : (d : ℕ) (b' : List ℕ) → z < a + length b → d ≡ (if live_in l s C k z then 1 else 0) → b' ≡ set b m z
-      → Selected (live_in l s C k) a (z + 1) (m + d) b'
-  choose_one d b' h e q = rw q (selected_step (live_in l s C k) a z m b S (choose_index h) d e)
+  module _ (x : Bool) (h : z < a + length b) (e : x ≡ live_in l s C k z) where
+    pub choose_live : x ≡ true → Selected (live_in l s C k) a (z + 1) (m + 1) (set b m z)
+    choose_live y = let q : live_in l s C k z ≡ true = sym e ∙ y in selected_step (live_in l s C k) a z m b S (choose_index h) 1 (simp q)
+
+    pub choose_dead : x ≡ false → Selected (live_in l s C k) a (z + 1) m (set b m z)
+    choose_dead y =
+        let q : live_in l s C k z ≡ false = sym e ∙ y in
+        let i : m + 0 ≡ m = omega arith in
+        rw i at (selected_step (live_in l s C k) a z m b S (choose_index h) 0 (simp q))
 
   -- over another name of the end
   pub selected_end : (z' : ℕ) → z ≤ z' → z' ≤ z → Selected (live_in l s C k) a z' m b
@@ -70,7 +70,7 @@ two_end l s C k a t u m b S g h = let i : t ≡ u = omega arith in rw i at S
 pub selected_start : (l : List ℕ) (s : Bool) (C k a : ℕ) (b : List ℕ) → Selected (live_in l s C k) a a 0 b
 selected_start l s C k a b = selected_none (live_in l s C k) a b
 
-pub ruleset choose_cases = (kept, choose_index, choose_fits, choose_one, selected_end, selected_from, selected_start, two_chosen, two_end)
+pub ruleset choose_cases = (kept, choose_index, choose_fits, selected_end, selected_from, selected_start, two_chosen, two_end)
 
 -- ---- all of a stretch
 
@@ -163,23 +163,19 @@ module _ (l : List ℕ) (s : Bool) (C k a z m : ℕ) (b : List ℕ) (S : Selecte
       chosen_filled N N' p t f c F i =
           rw (i, e) (filled_on l s C k N (lead_of b a j) p t f c F (get_or b j 0) (S.rising j h) (S.between j h))
 
-  pub chosen_all : (N mm p : ℕ) (t f c : List ℕ) → j ≤ m → m ≤ j → Filled l s C k N (lead_of b a j) p t f c → FilledIf mm l s C k N z p t f c
-  chosen_all N mm p t f c g h F =
-      let i : j ≡ m = omega arith in
-      record { filled = λ _. filled_on l s C k N (lead_of b a m) p t f c (rw i at F) z S.last S.behind }
+  pub chosen_all : (N p : ℕ) (t f c : List ℕ) → j ≤ m → m ≤ j → Filled l s C k N (lead_of b a j) p t f c → Filled l s C k N z p t f c
+  chosen_all N p t f c g h F =
+      let i : j ≡ m = omega arith in filled_on l s C k N (lead_of b a m) p t f c (rw i at F) z S.last S.behind
 
 pub chosen_start : (l : List ℕ) (s : Bool) (C k N a p : ℕ) (b t f c : List ℕ) → Filled l s C k N a p t f c → Filled l s C k N (lead_of b a 0) p t f c
 unfolding lead_of
 chosen_start l s C k N a p b t f c F = F
 
-pub chosen_again : (l : List ℕ) (s : Bool) (C k N N' mm room v q a j : ℕ) (b t f c : List ℕ) → FilledIf mm l s C k N' (v + 1) q t f c → v ≡ get_or b j 0
-    → q ≤ room → mm ≡ room → N' ≡ N → Filled l s C k N (lead_of b a (j + 1)) q t f c
-chosen_again l s C k N N' mm room v q a j b t f c F e g i n = rw (lead_next b a j, ← e) (rw n at (F.filled (omega arith)))
+pub chosen_again : (l : List ℕ) (s : Bool) (C k N N' v q a j : ℕ) (b t f c : List ℕ) → Filled l s C k N' (v + 1) q t f c → v ≡ get_or b j 0
+    → N' ≡ N → Filled l s C k N (lead_of b a (j + 1)) q t f c
+chosen_again l s C k N N' v q a j b t f c F e n = rw (lead_next b a j, ← e) (rw n at F)
 
-pub chosen_many : (l : List ℕ) (s : Bool) (C k N z mm q : ℕ) (t f c : List ℕ) → mm < q → FilledIf mm l s C k N z q t f c
-chosen_many l s C k N z mm q t f c h = record { filled = λ g. absurd (omega arith) }
-
-pub ruleset chosen_cases = (kept, chosen_index, chosen_below, chosen_live, chosen_filled, chosen_again, chosen_all, chosen_start, chosen_many)
+pub ruleset chosen_cases = (kept, chosen_index, chosen_below, chosen_live, chosen_filled, chosen_again, chosen_all, chosen_start)
 
 -- ---- stretch by stretch
 
@@ -200,10 +196,8 @@ module _ (l : List ℕ) (s : Bool) (n trees : ℕ) (e : n ≡ key_count l s) (h 
       go true e q = omega arith
       go false e q = omega arith
 
-  pub stretch_all : (C k N mm t p : ℕ) (a f c : List ℕ) → t ≤ trees → trees ≤ t → Filled l s C k N (number_of s t) p a f c → FilledIf mm l s C k N n p a f c
-  stretch_all C k N mm t p a f c g i F =
-      let j : t ≡ trees = omega arith in
-      record { filled = λ _. rw number_end at (rw j at F) }
+  pub stretch_all : (C k N t p : ℕ) (a f c : List ℕ) → t ≤ trees → trees ≤ t → Filled l s C k N (number_of s t) p a f c → Filled l s C k N (key_count l s) p a f c
+  stretch_all C k N t p a f c g i F = let j : t ≡ trees = omega arith in rw (number_end ∙ e) at (rw j at F)
 
 pub stretch_start : (l : List ℕ) (s : Bool) (C k N p : ℕ) (t f c : List ℕ) → Filled l s C k N 0 p t f c → Filled l s C k N (number_of s 0) p t f c
 unfolding number_of
@@ -217,8 +211,8 @@ stretch_chosen l s C k m x y x' y' b ex ey S = rw (ex, ey) S
 pub stretch_from : (l : List ℕ) (s : Bool) (C k N p x x' : ℕ) (t f c : List ℕ) → x ≡ x' → Filled l s C k N x' p t f c → Filled l s C k N x p t f c
 stretch_from l s C k N p x x' t f c e F = rw e F
 
-pub stretch_to : (l : List ℕ) (s : Bool) (C k N mm p y y' : ℕ) (t f c : List ℕ) → y ≡ y' → FilledIf mm l s C k N y p t f c → FilledIf mm l s C k N y' p t f c
-stretch_to l s C k N mm p y y' t f c e F = rw e at F
+pub stretch_to : (l : List ℕ) (s : Bool) (C k N mm y y' : ℕ) (p : Option ℕ) (t f c : List ℕ) → y ≡ y' → FilledIf mm l s C k N y p t f c → FilledIf mm l s C k N y' p t f c
+stretch_to l s C k N mm y y' p t f c e F = rw e at F
 
 pub stretch_room : (s : Bool) (t u x y : ℕ) (b : List ℕ) → x ≡ number_of s t → y ≡ number_of s u → u ≤ t + 512 → length b ≡ length (replicate {A = ℕ} 1024 0) → y ≤ x + length b
 unfolding number_of

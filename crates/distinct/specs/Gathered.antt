@@ -1,5 +1,6 @@
 -- The distinct keys of a run as they are gathered: by rank their numbers and counts, and a hash table of ranks.
-use Rattle.std.specs.Prelude.{ℕ, ◌<◌, ◌≤◌, ◌≡◌, Bool, List, length, get_or, eqb}
+use Rattle.std.specs.Prelude.{ℕ, ◌<◌, ◌≤◌, ◌≡◌, Bool, List, IfSome, length, get_or, eqb}
+use Rattle.std.specs.Prelude.{Option}
 use Rattle.format.specs.Distinct.{news, times}
 use Rattle.format.specs.MakeTables.{alike_at}
 use Rattle.keys.specs.Keys.{live_in, slot_of}
@@ -35,6 +36,6 @@ pub record Filled (l : List ℕ) (symbols : Bool) (classes class size v p : ℕ)
   pub gathered : Gathered (live_in l symbols classes class) (alike_at l symbols) v p f c
   pub reached : Reached (slot_of l symbols size) size p t f
 
--- the same, unless there are more distinct keys than room
-pub record FilledIf (room : ℕ) (l : List ℕ) (symbols : Bool) (classes class size v p : ℕ) (t f c : List ℕ) : Type 0 where
-  pub filled : p ≤ room → Filled l symbols classes class size v p t f c
+-- the same where there is room for the distinct keys
+abbrev pub FilledIf : ℕ → List ℕ → Bool → ℕ → ℕ → ℕ → ℕ → Option ℕ → List ℕ → List ℕ → List ℕ → Type 0
+FilledIf room l symbols classes class size v r t f c = IfSome r (λ p. (p ≤ room) × Filled l symbols classes class size v p t f c)

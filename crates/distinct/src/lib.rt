@@ -6,3 +6,4 @@ pub mod count;
 pub mod gather;
 pub mod scan;
 mod select;
+pub mod sizes;

@@ -6,85 +6,67 @@ ghost use Rattle.distinct.specs.Gathered.{Under, Gathered};
 ghost use Rattle.keys.specs.Runs.{Room};
 ghost use Rattle.distinct.specs.Pairs.{Sought, Scanned};
 
-use keys::key::{alike, live};
+use keys::key::Keys;
 use keys::run::{get_at, raise, set_at};
-use slots::probe::size;
 
-// The first of p numbers that is the same key as v, or p.
-fn find(l: &[u32], symbols: bool, v: usize, p: usize, words: &[u32]) -> usize
-    requires v_bound { (v < key_count l.now symbols) × (key_count l.now symbols < 4294967295) }
-    requires under { Under p (key_count l.now symbols) words.now }
-    ensures { Sought l.now symbols v p words.now result }
+// The first of p numbers that is the same key as v.
+fn find(keys: &Keys, v: usize, p: usize, words: &[u32]) -> Option<usize>
+    requires v_bound { v < key_count keys.now.list.now keys.now.symbols }
+    requires under { Under p (key_count keys.now.list.now keys.now.symbols) words.now }
+    ensures { Sought keys.now.list.now keys.now.symbols v p words.now result }
 {
-    let mut e: usize = 0;
-    while e < p {
-        if alike(l, symbols, size(get_at(words, e)), v) {
-            return e;
+    for e in 0..p {
+        if keys.alike(get_at(words, e) as usize, v) {
+            return Some(e);
         }
-        e = e + 1;
     }
-    e
+    None
 }
 
 // Key v, which is one, joins the p keys before it or is counted.
-fn scan_key(
-    l: &[u32],
-    symbols: bool,
-    v: usize,
-    p: usize,
-    words: &mut [u32],
-    tallies: &mut [u32],
-) -> usize
-    requires v_bound { (v < key_count l.now symbols) × (key_count l.now symbols < 4294967295) × (p < 4294967295) }
-    requires v_value { live_at l.now symbols v ≡ true }
-    requires gathered { Gathered (live_at l.now symbols) (alike_at l.now symbols) v p words.old tallies.old }
-    requires room { Room l.now symbols words.old tallies.old }
-    ensures { Scanned l.now symbols (v + 1) result
+fn scan_key(keys: &Keys, v: usize, p: usize, words: &mut [u32], tallies: &mut [u32]) -> usize
+    requires v_bound { (v < key_count keys.now.list.now keys.now.symbols) × (p < 4294967295) }
+    requires v_value { live_at keys.now.list.now keys.now.symbols v ≡ true }
+    requires gathered { Gathered (live_at keys.now.list.now keys.now.symbols) (alike_at keys.now.list.now keys.now.symbols) v p words.old tallies.old }
+    requires room { Room keys.now.list.now keys.now.symbols words.old tallies.old }
+    ensures { Scanned keys.now.list.now keys.now.symbols (v + 1) result
         words.old words.new tallies.old tallies.new }
 {
-    let e = find(l, symbols, v, p, words);
-    if e < p {
-        raise(tallies, e);
-        return p;
+    match find(keys, v, p, words) {
+        Some(e) => {
+            raise(tallies, e);
+            p
+        }
+        None => {
+            set_at(words, p, v as u32);
+            set_at(tallies, p, 1);
+            p + 1
+        }
     }
-    let next = p + 1;
-    set_at(words, p, v as u32);
-    set_at(tallies, p, 1);
-    next
 }
 
-fn scan_one(
-    l: &[u32],
-    symbols: bool,
-    v: usize,
-    p: usize,
-    words: &mut [u32],
-    tallies: &mut [u32],
-) -> usize
-    requires v_bound { (v < key_count l.now symbols) × (key_count l.now symbols < 4294967295) × (p < 4294967295) }
-    requires gathered { Gathered (live_at l.now symbols) (alike_at l.now symbols) v p words.old tallies.old }
-    requires room { Room l.now symbols words.old tallies.old }
-    ensures { Scanned l.now symbols (v + 1) result
+fn scan_one(keys: &Keys, v: usize, p: usize, words: &mut [u32], tallies: &mut [u32]) -> usize
+    requires v_bound { (v < key_count keys.now.list.now keys.now.symbols) × (p < 4294967295) }
+    requires gathered { Gathered (live_at keys.now.list.now keys.now.symbols) (alike_at keys.now.list.now keys.now.symbols) v p words.old tallies.old }
+    requires room { Room keys.now.list.now keys.now.symbols words.old tallies.old }
+    ensures { Scanned keys.now.list.now keys.now.symbols (v + 1) result
         words.old words.new tallies.old tallies.new }
 {
-    if live(l, symbols, v) {
-        return scan_key(l, symbols, v, p, words, tallies);
+    if keys.is_live(v) {
+        return scan_key(keys, v, p, words, tallies);
     }
     p
 }
 
 // The answer is how many keys there are.
-pub fn scan(l: &[u32], symbols: bool, n: usize, words: &mut [u32], tallies: &mut [u32]) -> usize
-    requires n_value { (n ≡ key_count l.now symbols) × (n < 4294967295) }
-    requires room { Room l.now symbols words.old tallies.old }
-    ensures { Scanned l.now symbols n result
+pub fn scan(keys: &Keys, words: &mut [u32], tallies: &mut [u32]) -> usize
+    requires room { Room keys.now.list.now keys.now.symbols words.old tallies.old }
+    ensures { Scanned keys.now.list.now keys.now.symbols (key_count keys.now.list.now keys.now.symbols) result
         words.old words.new tallies.old tallies.new }
 {
-    let mut v: usize = 0;
     let mut p: usize = 0;
-    while v < n {
-        p = scan_one(l, symbols, v, p, words, tallies);
-        v = v + 1;
+    for v in 0..keys.count() {
+        p = scan_one(keys, v, p, words, tallies);
     }
     p
 }

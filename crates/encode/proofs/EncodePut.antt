@@ -5,6 +5,7 @@ use mathlib.Core.Path.{◌≡◌, refl, ap, ◌∙◌}
 use mathlib.Core.List.{List, [], ◌∷◌, ◌++◌}
 use native.Mathlib.Omega.{arith}
 use lib.ListN.{length, length-append}
+use Rattle.std.specs.Prelude.{Result, Ok, Err}
 use Rattle.format.specs.Word.{half_bytes, word_bytes, put}
 use Rattle.format.specs.Span.{Span}
 use Rattle.format.specs.Tree.{subtree}
@@ -12,8 +13,6 @@ use Rattle.format.specs.Write.{join, byte, span_bytes, heavy_bytes, symbol_bytes
 use Rattle.format.proofs.Kept.{kept}
 use Rattle.format.proofs.Put.{put_length}
 use Rattle.pack.specs.Packing.{SpanPacked}
-use Rattle.pack.specs.declared.Packed.{Packed}
-use Rattle.pack.specs.declared.Packed.TheVariants.{Written, Refused}
 use Rattle.pack.proofs.Store.{put_then}
 use Rattle.format.proofs.WriteSize.{heavy_size}
 use Rattle.pack.proofs.Sizes.{span_length, symbol_length}
@@ -97,16 +96,16 @@ module _ (b b₁ b₂ b₃ : List ℕ) (at : ℕ) (s : Span) (e₁ : b₁ ≡ pu
 
 -- ---- pieces
 
-module _ (b : List ℕ) (at x : ℕ) (s : Span) (r : Packed) (b₁ : List ℕ) (p : SpanPacked b at false x s r b₁) (h₁ : x ≤ 3) (h : SpanReady s) (h₄ : at + length (span_bytes 0 s) ≤ length b) where
+module _ (b : List ℕ) (at x : ℕ) (s : Span) (r : Result ℕ ℕ) (b₁ : List ℕ) (p : SpanPacked b at false x s r b₁) (h₁ : x ≤ 3) (h : SpanReady s) (h₄ : at + length (span_bytes 0 s) ≤ length b) where
   -- there is room: no refusal
-  module _ (k : ℕ) (q : r ≡ Refused k) where
+  module _ (k : ℕ) (q : r ≡ Err k) where
     pub never_place : at ≡ at + length (span_bytes 0 s)
     never_place = never r (length (span_bytes 0 s)) k (smallest_written b at x s r b₁ h₁ h.ends h.part p h₄) q
 
     pub never_stored : b₁ ≡ put b at (span_bytes x s)
     never_stored = never r (length (span_bytes 0 s)) k (smallest_written b at x s r b₁ h₁ h.ends h.part p h₄) q
 
-  module _ (n : ℕ) (q : r ≡ Written n) where
+  module _ (n : ℕ) (q : r ≡ Ok n) where
     pub span_place : at + n ≡ at + length (span_bytes 0 s)
     span_place = ap (λ j. at + j) (smallest_count b at x s r b₁ h₁ h.ends h.part p h₄ n q)
 

@@ -7,7 +7,7 @@ use native.Mathlib.Omega.{arith}
 use borrow.Author.Tests.{le-leb, lt-leb, leb-true, ltb-true, not-true, not-false}
 use lib.Dec.{leb, eqb}
 use lib.ListN.{length}
-use Rattle.std.specs.Prelude.{if◌then◌else◌}
+use Rattle.std.specs.Prelude.{if◌then◌else◌, Ok, Err}
 use Rattle.format.specs.Verdict.{passed, ◌and_then◌, rule}
 use Rattle.format.specs.Word.{put}
 use Rattle.format.specs.Span.{Span}
@@ -18,7 +18,6 @@ use Rattle.format.specs.Pack.{room_for}
 use Rattle.format.proofs.Each.{both, rule_passed, and_left, and_right, and₃, and₄}
 use Rattle.format.proofs.WriteSize.{root_33}
 use Rattle.pack.specs.Answer.{span_of, packed_answer}
-use Rattle.pack.specs.declared.Packed.TheVariants.{Written, Refused}
 use Rattle.tree.specs.Raw.{raw_of, punct_raw, ident_raw, literal_raw, subtree_raw}
 use Rattle.encode.specs.Ready.{span_size, symbol_size, SpanReady, PunctReady, IdentReady, LiteralReady, SubtreeReady}
 use Rattle.encode.specs.Encode.{part_fits, symbol_fits, indices, pack_tree, TreePacked}
@@ -47,12 +46,12 @@ module _ (n at m : ℕ) where
 -- ---- the answers
 
 module _ (b : List ℕ) (at m : ℕ) (t : Raw) (kids : ℕ) (y : Bool) (e : y ≡ fields t) where
-  pub tree_2 : not y ≡ true → TreePacked b at m t kids (Refused 2) b
+  pub tree_2 : not y ≡ true → TreePacked b at m t kids (Err 2) b
   unfolding pack_tree packed_answer
   tree_2 h = let a : fields t ≡ false = sym e ∙ not-true y h in record { answer = simp a; contents = simp a }
 
   module _ (h : not y ≡ false) (z : Bool) (f : z ≡ indices t) where
-    pub tree_8 : not z ≡ true → TreePacked b at m t kids (Refused 8) b
+    pub tree_8 : not z ≡ true → TreePacked b at m t kids (Err 8) b
     unfolding pack_tree packed_answer
     tree_8 g =
         let a : fields t ≡ true = sym e ∙ not-false y h in
@@ -60,7 +59,7 @@ module _ (b : List ℕ) (at m : ℕ) (t : Raw) (kids : ℕ) (y : Bool) (e : y �
         record { answer = simp (a, c); contents = simp (a, c) }
 
     module _ (g : not z ≡ false) (n : ℕ) (d : n ≡ length (tree_bytes m t kids)) (w : Bool) (p : w ≡ leb (at + n) (length b)) where
-      pub tree_6 : not w ≡ true → TreePacked b at m t kids (Refused 6) b
+      pub tree_6 : not w ≡ true → TreePacked b at m t kids (Err 6) b
       unfolding pack_tree packed_answer
       tree_6 q =
           let a : fields t ≡ true = sym e ∙ not-false y h in
@@ -77,9 +76,9 @@ module _ (b : List ℕ) (at m : ℕ) (t : Raw) (kids : ℕ) (y : Bool) (e : y �
             let o : leb (at + length (tree_bytes m t kids)) (length b) ≡ true = ap (λ j. leb (at + j) (length b)) (sym d) ∙ sym p ∙ not-false w q in
             simp (a, c, o)
 
-        pub tree_written : (b' : List ℕ) → b' ≡ put b at (tree_bytes m t kids) → TreePacked b at m t kids (Written n) b'
+        pub tree_written : (b' : List ℕ) → b' ≡ put b at (tree_bytes m t kids) → TreePacked b at m t kids (Ok n) b'
         unfolding packed_answer
-        tree_written b' i = record { answer = rw tree_passes (ap Written d); contents = i ∙ rw tree_passes }
+        tree_written b' i = record { answer = rw tree_passes (ap Ok d); contents = i ∙ rw tree_passes }
 
 -- the root takes 33 bytes
 pub root_size : (s t : Span) (n d k : ℕ) → 33 ≡ length (tree_bytes 0 (subtree s t n d) k)

@@ -5,6 +5,7 @@ use mathlib.Core.Path.{◌≡◌, refl, sym, ◌∙◌}
 use mathlib.Core.List.{List}
 use borrow.Author.Tests.{le-leb, lt-ltb, ne_eqb}
 use lib.ListN.{length}
+use Rattle.std.specs.Prelude.{Result, Ok, Err}
 use Rattle.format.specs.Verdict.{passed}
 use Rattle.format.specs.Word.{put}
 use Rattle.format.specs.Span.{Span}
@@ -12,8 +13,6 @@ use Rattle.format.specs.Tree.{Raw, punct, ident, literal, subtree}
 use Rattle.format.specs.Fields.{fields}
 use Rattle.format.specs.Write.{tree_bytes}
 use Rattle.pack.specs.Answer.{packed_answer}
-use Rattle.pack.specs.declared.Packed.{Packed}
-use Rattle.pack.specs.declared.Packed.TheVariants.{Written, Refused}
 use Rattle.pack.proofs.Use.{written_same, unchanged}
 use Rattle.encode.specs.Encode.{indices, pack_tree, TreePacked}
 
@@ -39,9 +38,9 @@ module _ (s : Span) (h : s.index < 268435456) where
   pub subtree_indices : (t : Span) (n d : ℕ) → t.index < 268435456 → indices (subtree s t n d) ≡ true
   subtree_indices t n d g = simp (lt-ltb _ _ h, lt-ltb _ _ g)
 
-module _ (b : List ℕ) (at m : ℕ) (t : Raw) (kids : ℕ) (r : Packed) (b' : List ℕ) (p : TreePacked b at m t kids r b') where
+module _ (b : List ℕ) (at m : ℕ) (t : Raw) (kids : ℕ) (r : Result ℕ ℕ) (b' : List ℕ) (p : TreePacked b at m t kids r b') where
   -- a refusal changes nothing
-  pub tree_unchanged : (k : ℕ) → r ≡ Refused k → b' ≡ b
+  pub tree_unchanged : (k : ℕ) → r ≡ Err k → b' ≡ b
   tree_unchanged k e = p.contents ∙ unchanged (pack_tree b at m t kids) (length (tree_bytes m t kids)) k b (put b at (tree_bytes m t kids)) (sym e ∙ p.answer)
 
   -- within the bounds and with room
@@ -50,11 +49,11 @@ module _ (b : List ℕ) (at m : ℕ) (t : Raw) (kids : ℕ) (r : Packed) (b' : L
     unfolding pack_tree
     passes = simp (h₁, h₂, le-leb _ _ h₃)
 
-    pub encoded_written : r ≡ Written (length (tree_bytes m t kids))
+    pub encoded_written : r ≡ Ok (length (tree_bytes m t kids))
     unfolding packed_answer
     encoded_written = p.answer ∙ rw passes
 
-    pub encoded_count : (n : ℕ) → r ≡ Written n → n ≡ length (tree_bytes m t kids)
+    pub encoded_count : (n : ℕ) → r ≡ Ok n → n ≡ length (tree_bytes m t kids)
     encoded_count n e = written_same n (length (tree_bytes m t kids)) (sym e ∙ encoded_written)
 
     pub encoded_contents : b' ≡ put b at (tree_bytes m t kids)

@@ -1,5 +1,5 @@
 -- The form of a subtree below the root, and the reply and contents of writing one tree, for every input.
-use Rattle.std.specs.Prelude.{ℕ, Bool, ◌&&◌, ◌≡◌, List, length, ltb, if◌then◌else◌}
+use Rattle.std.specs.Prelude.{ℕ, Bool, ◌&&◌, ◌≡◌, List, length, ltb, if◌then◌else◌, Result}
 use Rattle.format.specs.Verdict.{Verdict, ◌and_then◌, rule, report}
 use Rattle.format.specs.Verdict as verdict
 use Rattle.format.specs.Word.{put}
@@ -9,7 +9,6 @@ use Rattle.format.specs.Fields.{fields}
 use Rattle.format.specs.Write.{fits000, fits001, fits010, tree_bytes}
 use Rattle.format.specs.Pack.{room_for}
 use Rattle.pack.specs.Answer.{packed_answer}
-use Rattle.pack.specs.declared.Packed.{Packed}
 use Rattle.encode.specs.declared.size.SubtreeForm.{SubtreeForm}
 use Rattle.encode.specs.declared.size.SubtreeForm.TheVariants.{Brackets, Equal, TwoParts, Apart}
 
@@ -40,6 +39,6 @@ pack_tree out at m t kids =
     rule (indices t) 8 0 and_then
     room_for out at (tree_bytes m t kids)
 
-pub record TreePacked (b : List ℕ) (at m : ℕ) (t : Raw) (kids : ℕ) (r : Packed) (b' : List ℕ) : Type 0 where
+pub record TreePacked (b : List ℕ) (at m : ℕ) (t : Raw) (kids : ℕ) (r : Result ℕ ℕ) (b' : List ℕ) : Type 0 where
   pub answer : r ≡ packed_answer (report (pack_tree b at m t kids) (length (tree_bytes m t kids)))
   pub contents : b' ≡ verdict.contents (pack_tree b at m t kids) b (put b at (tree_bytes m t kids))

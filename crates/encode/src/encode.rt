@@ -11,7 +11,7 @@ ghost use Rattle.encode.specs.Ready.{SpanReady, PunctReady, IdentReady, LiteralR
 ghost use Rattle.encode.specs.Encode.{part_fits, symbol_fits, indices, pack_tree, TreePacked};
 
 use crate::size::{ASCII, SubtreeForm, form_of, is_short, short_base, tree_size};
-use pack::Packed;
+use pack::row::{self, Row};
 use pack::span::{PackedSpan, encode_span_no_map};
 use pack::symbol::encode_symbol;
 use pack::unchecked::{put_byte, put_half, put_word};
@@ -23,34 +23,27 @@ pub const ROOT: usize = 33;
 
 // ---- row 8
 
+// Part and symbol indices below these can be packed.
+const MOST_PARTS: u32 = 268435456;
+
+const MOST_SYMBOLS: u32 = 536870912;
+
 fn part_fits(span: PackedSpan) -> bool
     ensures { result ≡ part_fits (span_of span) }
 {
-    if 268435456 <= span.index {
-        return false;
-    }
-    true
+    span.index < MOST_PARTS
 }
 
 fn leaf_fits(span: PackedSpan, symbol: u32) -> bool
     ensures { result ≡ (part_fits (span_of span) && symbol_fits symbol) }
 {
-    if !part_fits(span) {
-        return false;
-    }
-    if 536870912 <= symbol {
-        return false;
-    }
-    true
+    part_fits(span) && symbol < MOST_SYMBOLS
 }
 
 fn parts_fit(opening: PackedSpan, closing: PackedSpan) -> bool
     ensures { result ≡ (part_fits (span_of opening) && part_fits (span_of closing)) }
 {
-    if !part_fits(opening) {
-        return false;
-    }
-    part_fits(closing)
+    part_fits(opening) && part_fits(closing)
 }
 
 // Whether the indices of a tree can be packed.
@@ -73,7 +66,7 @@ fn put_span(out: &mut [u8], at: usize, span: PackedSpan, extra: u32) -> usize
     ensures { (result ≡ at + span_size (span_of span))
         × (out.new ≡ put out.old at (span_bytes extra (span_of span))) }
 {
-    let Packed::Written(n) = encode_span_no_map(out, at, span, extra, false) else {
+    let Ok(n) = encode_span_no_map(out, at, span, extra, false) else {
         return at;
     };
     at + n
@@ -83,14 +76,14 @@ fn put_heavy(out: &mut [u8], at: usize, span: PackedSpan)
     requires { SpanReady (span_of span) × (at + 12 ≤ length out.old) }
     ensures { out.new ≡ put out.old at (heavy_bytes 0 (span_of span)) }
 {
-    encode_span_no_map(out, at, span, 0, true);
+    let _ = encode_span_no_map(out, at, span, 0, true);
 }
 
 fn put_symbol(out: &mut [u8], at: usize, tag: u32, index: u32)
     requires { (tag ≤ 1) × (index < 536870912) × (at + symbol_size index ≤ length out.old) }
     ensures { out.new ≡ put out.old at (symbol_bytes tag index) }
 {
-    encode_symbol(out, at, tag, index);
+    let _ = encode_symbol(out, at, tag, index);
 }
 
 fn put_two(out: &mut [u8], at: usize, a: u32, b: u32)
@@ -293,9 +286,9 @@ pub(crate) fn put_punct(out: &mut [u8], at: usize, p: RawPunct)
 {
     if p.char < ASCII {
         put_ascii(out, at, p);
-        return;
+    } else {
+        put_other(out, at, p);
     }
-    put_other(out, at, p);
 }
 
 pub(crate) fn put_literal(out: &mut [u8], at: usize, p: RawLiteral)
@@ -304,21 +297,18 @@ pub(crate) fn put_literal(out: &mut [u8], at: usize, p: RawLiteral)
 {
     if is_short(p) {
         put_short(out, at, p);
-        return;
-    }
-    if is_raw_kind(p.kind) {
+    } else if is_raw_kind(p.kind) {
         put_raw(out, at, p);
-        return;
+    } else {
+        put_long(out, at, p);
     }
-    put_long(out, at, p);
 }
 
 pub(crate) fn put_subtree(out: &mut [u8], at: usize, p: RawSubtree, children: ChildrenBytes)
     requires { SubtreeReady p × (at + length (tree_bytes 1 (subtree_raw p) children.0) ≤ length out.old) }
     ensures { out.new ≡ put out.old at (tree_bytes 1 (subtree_raw p) children.0) }
 {
-    let form = form_of(p, children);
-    match form {
+    match form_of(p, children) {
         SubtreeForm::Brackets => put_brackets(out, at, p, children),
         SubtreeForm::Equal => put_equal(out, at, p, children),
         SubtreeForm::TwoParts => put_two_parts(out, at, p, children),
@@ -352,31 +342,30 @@ fn put_top(out: &mut [u8], at: usize, p: RawSubtree, children: ChildrenBytes)
 fn has_room(len: usize, at: usize, n: usize) -> bool
     ensures { result ≡ leb (at + n) len }
 {
-    if len < at {
-        return false;
-    }
-    if len - at < n {
-        return false;
-    }
-    true
+    at <= len && n <= len - at
 }
 
 // Writes a tree below the root at a place, a subtree with the bytes of its children.
-pub fn encode(out: &mut [u8], at: usize, tree: RawTree, children: ChildrenBytes) -> Packed
+pub fn encode(
+    out: &mut [u8],
+    at: usize,
+    tree: RawTree,
+    children: ChildrenBytes,
+) -> Result<usize, Row>
     ensures { TreePacked out.old at 1 (raw_of tree) children.0 result out.new }
 {
     if !tree_fits(tree) {
-        return Packed::Refused(2);
+        return Err(row::FIELD);
     }
     if !indices_fit(tree) {
-        return Packed::Refused(8);
+        return Err(row::INDEX);
     }
     let n = tree_size(tree, children);
     if !has_room(out.len(), at, n) {
-        return Packed::Refused(6);
+        return Err(row::ROOM);
     }
     put_tree(out, at, tree, children);
-    Packed::Written(n)
+    Ok(n)
 }
 
 // Writes the root at a place.
@@ -385,18 +374,18 @@ pub fn encode_top_subtree(
     at: usize,
     p: RawSubtree,
     children: ChildrenBytes,
-) -> Packed
+) -> Result<usize, Row>
     ensures { TreePacked out.old at 0 (subtree_raw p) children.0 result out.new }
 {
     if !subtree_fits(p) {
-        return Packed::Refused(2);
+        return Err(row::FIELD);
     }
     if !parts_fit(p.opening, p.closing) {
-        return Packed::Refused(8);
+        return Err(row::INDEX);
     }
     if !has_room(out.len(), at, ROOT) {
-        return Packed::Refused(6);
+        return Err(row::ROOM);
     }
     put_top(out, at, p, children);
-    Packed::Written(ROOT)
+    Ok(ROOT)
 }

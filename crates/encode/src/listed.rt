@@ -14,16 +14,14 @@ use crate::encode::{put_ident, put_literal, put_punct, put_subtree};
 use crate::size::{ASCII, literal_size, small_span, small_symbol, subtree_size};
 use tree::listed::{ident_at, literal_at, open_span, punct_at, sort_at, subtree_at};
 use tree::raw::ChildrenBytes;
+use tree::sort;
 use width::TREE_WORDS;
 
 // The bytes of a punct behind its span.
 fn char_size(char: u32) -> usize
     ensures { (result ≡ char_size char) × (result ≤ 5) }
 {
-    if char < ASCII {
-        return 1;
-    }
-    5
+    if char < ASCII { 1 } else { 5 }
 }
 
 // The bytes of a punct or an ident behind its span.
@@ -32,10 +30,7 @@ fn tail_size(sort: u32, char: u32, symbol: u32) -> usize
 {
     let one = char_size(char);
     let other = small_symbol(symbol);
-    if sort == 0 {
-        return one;
-    }
-    other
+    if sort == sort::PUNCT { one } else { other }
 }
 
 // The size of a punct or an ident: which of the two it is, is not branched on.
@@ -62,14 +57,11 @@ pub fn listed_size(
     ensures { result ≡ length (tree_bytes 1
         (raw_from open_index close_index symbol_index (word_of l.now n)) children.0) }
 {
-    let sort = sort_at(l, n);
-    if sort < 2 {
-        return short_size(l, n, sort, open_index, symbol_index);
+    match sort_at(l, n) {
+        sort @ (sort::PUNCT | sort::IDENT) => short_size(l, n, sort, open_index, symbol_index),
+        sort::LITERAL => literal_size(literal_at(l, n, open_index, symbol_index)),
+        _ => subtree_size(subtree_at(l, n, open_index, close_index), children),
     }
-    if sort == 2 {
-        return literal_size(literal_at(l, n, open_index, symbol_index));
-    }
-    subtree_size(subtree_at(l, n, open_index, close_index), children)
 }
 
 // Writes tree n below the root, with these indices: it has passed every row.
@@ -89,18 +81,10 @@ pub fn put_listed(
     ensures { out.new ≡ put out.old at (tree_bytes 1
         (raw_from open_index close_index symbol_index (word_of l.now n)) children.0) }
 {
-    let sort = sort_at(l, n);
-    if sort == 0 {
-        put_punct(out, at, punct_at(l, n, open_index));
-        return;
+    match sort_at(l, n) {
+        sort::PUNCT => put_punct(out, at, punct_at(l, n, open_index)),
+        sort::IDENT => put_ident(out, at, ident_at(l, n, open_index, symbol_index)),
+        sort::LITERAL => put_literal(out, at, literal_at(l, n, open_index, symbol_index)),
+        _ => put_subtree(out, at, subtree_at(l, n, open_index, close_index), children),
     }
-    if sort == 1 {
-        put_ident(out, at, ident_at(l, n, open_index, symbol_index));
-        return;
-    }
-    if sort == 2 {
-        put_literal(out, at, literal_at(l, n, open_index, symbol_index));
-        return;
-    }
-    put_subtree(out, at, subtree_at(l, n, open_index, close_index), children);
 }

@@ -31,127 +31,76 @@ pub enum SubtreeForm {
 fn is_near(opening: PackedSpan, closing: PackedSpan, most: u32) -> bool
     ensures { result ≡ near (span_of opening) (span_of closing) most }
 {
-    if closing.start < opening.start {
-        return false;
-    }
-    if most < closing.start - opening.start {
-        return false;
-    }
-    true
+    opening.start <= closing.start && closing.start - opening.start <= most
 }
 
 // Whether the descendants fit a byte, and their bytes a limit.
 fn is_few(len: Descendants, children: ChildrenBytes, most: u32) -> bool
     ensures { result ≡ (leb len.0 255 && leb children.0 most) }
 {
-    if 255 < len.0 {
-        return false;
-    }
-    if most < children.0 {
-        return false;
-    }
-    true
+    len.0 <= 255 && children.0 <= most
 }
 
 fn fits_brackets(p: RawSubtree, children: ChildrenBytes) -> bool
     ensures { result ≡ fits000 (span_of p.opening) (span_of p.closing) p.len.0 children.0 }
 {
-    if p.opening.index != p.closing.index {
-        return false;
-    }
-    if !is_few(p.len, children, 255) {
-        return false;
-    }
-    if p.opening.len != 1 {
-        return false;
-    }
-    if p.closing.len != 1 {
-        return false;
-    }
-    is_near(p.opening, p.closing, 2047)
+    p.opening.index == p.closing.index
+        && is_few(p.len, children, 255)
+        && p.opening.len == 1
+        && p.closing.len == 1
+        && is_near(p.opening, p.closing, 2047)
 }
 
 fn fits_equal(p: RawSubtree, children: ChildrenBytes) -> bool
     ensures { result ≡ fits001 (span_of p.opening) (span_of p.closing) p.len.0 children.0 }
 {
-    if p.opening.index != p.closing.index {
-        return false;
-    }
-    if !is_few(p.len, children, 255) {
-        return false;
-    }
-    if p.opening.len != p.closing.len {
-        return false;
-    }
-    is_near(p.opening, p.closing, 7)
+    p.opening.index == p.closing.index
+        && is_few(p.len, children, 255)
+        && p.opening.len == p.closing.len
+        && is_near(p.opening, p.closing, 7)
 }
 
 fn fits_two_parts(p: RawSubtree, children: ChildrenBytes) -> bool
     ensures { result ≡ fits010 (span_of p.opening) (span_of p.closing) p.len.0 children.0 }
 {
-    if !is_few(p.len, children, 4095) {
-        return false;
-    }
-    if p.opening.len != p.closing.len {
-        return false;
-    }
-    if !is_near(p.opening, p.closing, 255) {
-        return false;
-    }
-    if 127 < p.closing.index {
-        return false;
-    }
-    true
+    is_few(p.len, children, 4095)
+        && p.opening.len == p.closing.len
+        && is_near(p.opening, p.closing, 255)
+        && p.closing.index <= 127
 }
 
 pub(crate) fn form_of(p: RawSubtree, children: ChildrenBytes) -> SubtreeForm
     ensures { result ≡ subtree_form (span_of p.opening) (span_of p.closing) p.len.0 children.0 }
 {
     if fits_brackets(p, children) {
-        return SubtreeForm::Brackets;
+        SubtreeForm::Brackets
+    } else if fits_equal(p, children) {
+        SubtreeForm::Equal
+    } else if fits_two_parts(p, children) {
+        SubtreeForm::TwoParts
+    } else {
+        SubtreeForm::Apart
     }
-    if fits_equal(p, children) {
-        return SubtreeForm::Equal;
-    }
-    if fits_two_parts(p, children) {
-        return SubtreeForm::TwoParts;
-    }
-    SubtreeForm::Apart
 }
 
 // The control base of the four literals that have a short form, 0 for any other.
 pub(crate) fn short_base(kind: u32, raw_count: u32) -> u32
     ensures { (result ≡ short_base kind raw_count) × (result ≤ 12) }
 {
-    if kind == 4 {
-        return 3;
+    match (kind, raw_count) {
+        (4, _) => 3,
+        (2, _) => 12,
+        (5, 0) => 4,
+        (5, 1) => 11,
+        _ => 0,
     }
-    if kind == 2 {
-        return 12;
-    }
-    if kind != 5 {
-        return 0;
-    }
-    if raw_count == 0 {
-        return 4;
-    }
-    if raw_count == 1 {
-        return 11;
-    }
-    0
 }
 
 // Whether the short form holds the literal.
 pub(crate) fn is_short(p: RawLiteral) -> bool
     ensures { result ≡ (ltb 0 (short_base p.kind p.raw_count) && leb p.suffix_len 15) }
 {
-    if short_base(p.kind, p.raw_count) == 0 {
-        return false;
-    }
-    if 15 < p.suffix_len {
-        return false;
-    }
-    true
+    0 < short_base(p.kind, p.raw_count) && p.suffix_len <= 15
 }
 
 // The size of a span in its smallest form, with its bound.
@@ -171,18 +120,14 @@ fn punct_size(p: RawPunct) -> usize
     ensures { result ≡ length (tree_bytes 1 (punct_raw p) 0) }
 {
     let span = small_span(p.span);
-    if p.char < ASCII {
-        return span + 1;
-    }
-    span + 5
+    if p.char < ASCII { span + 1 } else { span + 5 }
 }
 
 fn ident_size(p: RawIdent) -> usize
     ensures { result ≡ length (tree_bytes 1 (ident_raw p) 0) }
 {
     let span = small_span(p.span);
-    let symbol = small_symbol(p.symbol);
-    span + symbol
+    span + small_symbol(p.symbol)
 }
 
 pub(crate) fn literal_size(p: RawLiteral) -> usize
@@ -191,19 +136,18 @@ pub(crate) fn literal_size(p: RawLiteral) -> usize
     let span = small_span(p.span);
     let symbol = small_symbol(p.symbol);
     if is_short(p) {
-        return span + 1 + symbol;
+        span + 1 + symbol
+    } else if is_raw_kind(p.kind) {
+        span + 3 + symbol
+    } else {
+        span + 2 + symbol
     }
-    if is_raw_kind(p.kind) {
-        return span + 3 + symbol;
-    }
-    span + 2 + symbol
 }
 
 pub(crate) fn subtree_size(p: RawSubtree, children: ChildrenBytes) -> usize
     ensures { result ≡ length (tree_bytes 1 (subtree_raw p) children.0) }
 {
-    let form = form_of(p, children);
-    match form {
+    match form_of(p, children) {
         // The distance stands for the length.
         SubtreeForm::Brackets => {
             let span = small_span(PackedSpan {

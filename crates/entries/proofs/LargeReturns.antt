@@ -1,7 +1,8 @@
 -- Laws for the functions that try one size of arrays after the other.
 use Prim.Native.Nat.{ℕ, ◌<◌, ◌≤◌}
-use mathlib.Core.Path.{◌≡◌, refl, ap, sym, ◌∙◌, subst}
+use mathlib.Core.Path.{◌≡◌, refl, ap, sym, ◌∙◌}
 use mathlib.Core.Bool.{Bool}
+use Rattle.std.specs.Prelude.{Option}
 use mathlib.Core.List.{List}
 use native.Mathlib.Omega.{arith}
 use lib.ListN.{length, get_or}
@@ -10,7 +11,7 @@ use Rattle.format.proofs.Tally.{amount, tally_same}
 use Rattle.format.specs.MakeTables.{key_count, keys_of, times_of, table_counts}
 use Rattle.format.proofs.TableKeys.{keys_many, keys_most, counts_many}
 use Rattle.keys.specs.Runs.{Room}
-use Rattle.entries.specs.Runs.{Made, MadeIf}
+use Rattle.entries.specs.Runs.{Made}
 use Rattle.distinct.specs.Pairs.{Scanned, Paired}
 use Rattle.distinct.specs.Classes.{PairedIf}
 use Rattle.slots.proofs.Cases.{kept}
@@ -51,12 +52,9 @@ large_room l s n p w w₁ t t₁ S R = scanned_room l s w t n p w₁ t₁ S R
 pub large_fits : (l : List ℕ) (s : Bool) (n p : ℕ) (w w₁ t t₁ : List ℕ) → Scanned l s n p w w₁ t t₁ → n < 4294967295 → p < 4294967295
 large_fits l s n p w w₁ t t₁ S h = scanned_fits l s w t n p w₁ t₁ S n (omega arith) h
 
-module _ (l : List ℕ) (s : Bool) (p : ℕ) (w w₁ t t₁ : List ℕ) (P : PairedIf l s p w w₁ t t₁) where
+module _ (l : List ℕ) (s : Bool) (p : Option ℕ) (w w₁ t t₁ : List ℕ) (P : PairedIf l s p w w₁ t t₁) where
   pub quick_room : Room l s w t → Room l s w₁ t₁
   quick_room R = record { words = rw P.scratched.words.size R.words; tallies = rw P.scratched.tallies.size R.tallies }
-
-  pub quick_paired : p < 4294967295 → Paired l s p w₁ t₁
-  quick_paired h = P.paired h
 
   pub quick_made : (q : ℕ) (w₂ t₂ : List ℕ) → Made l s q w₁ w₂ t₁ t₂ → Made l s q w w₂ t t₂
   quick_made q w₂ t₂ M =
@@ -67,23 +65,14 @@ module _ (l : List ℕ) (s : Bool) (p : ℕ) (w w₁ t t₁ : List ℕ) (P : Pai
         tallies = M.tallies ∙ put_behind (length (keys_of l s)) t t₁ (table_counts l s) P.scratched.tallies k;
       }
 
-pub ruleset quick_cases = (kept, quick_room, quick_paired, quick_made)
-
 pub ruleset large_cases = (kept, large_paired, large_made, large_room, large_fits)
 
-module _ (l : List ℕ) (s : Bool) (m p : ℕ) (w w₁ t t₁ : List ℕ) (M : MadeIf l s m p w w₁ t t₁) where
-  pub tried_made : p ≤ m → Made l s p w w₁ t t₁
-  tried_made h = M.made h
+module _ (l : List ℕ) (s : Bool) (p : ℕ) (h : key_count l s < 4294967295) where
+  pub number_fits : p ≡ length (keys_of l s) → p < 4294967295
+  number_fits e = let a = keys_many l s in let b = keys_most l s in omega arith
 
-  pub tried_again : (q : ℕ) (w₂ t₂ : List ℕ) → m < p → Made l s q w₁ w₂ t₁ t₂ → Made l s q w w₂ t t₂
-  tried_again q w₂ t₂ h N =
-      let k = M.none h in
-      subst (λ (x : List ℕ). Made l s q x w₂ t t₂) k.0 (subst (λ (x : List ℕ). Made l s q w₁ w₂ x t₂) k.1 N)
+  pub paired_fits : (w t : List ℕ) → Paired l s p w t → p < 4294967295
+  paired_fits w t P = number_fits P.number
 
-pub tried_room : (l : List ℕ) (s : Bool) (w w₁ t t₁ : List ℕ) → Room l s w t → length w₁ ≡ length w → length t₁ ≡ length t → Room l s w₁ t₁
-tried_room l s w w₁ t t₁ R a b = record { words = rw a R.words; tallies = rw b R.tallies }
-
-pub ruleset tries_cases = (kept, tried_made, tried_again, tried_room)
-
-pub made_fits : (l : List ℕ) (s : Bool) (n p : ℕ) (w w₁ t t₁ : List ℕ) → Made l s p w w₁ t t₁ → n ≡ key_count l s → key_count l s < 4294967295 → p < 4294967295
-made_fits l s n p w w₁ t t₁ M e h = let a = keys_many l s in let b = keys_most l s in omega (arith, M.number)
+  pub made_fits : (w w₁ t t₁ : List ℕ) → Made l s p w w₁ t t₁ → p < 4294967295
+  made_fits w w₁ t t₁ M = number_fits M.number

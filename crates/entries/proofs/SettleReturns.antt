@@ -1,6 +1,6 @@
 -- Laws for the functions that make the table of pairs in the lent runs.
 use Prim.Native.Nat.{ℕ, ◌-◌, ◌<◌, ◌≤◌}
-use mathlib.Core.Path.{◌≡◌, ◌∙◌}
+use mathlib.Core.Path.{◌≡◌, ◌∙◌, refl}
 use mathlib.Core.Bool.{Bool}
 use mathlib.Core.List.{List}
 use native.Mathlib.Omega.{arith}
@@ -35,11 +35,11 @@ module _ (l : List ℕ) (s : Bool) (p : ℕ) (b t : List ℕ) (S : Settled l s p
   expand_none = expand_start l s p b t S
 
   module _ (w : List ℕ) (k : ℕ) (E : Expanding l s p k b w) where
-    module _ (pos : 0 < k) (most : k ≤ p) (x v : ℕ) (ex : x ≡ get_or w (k - 1) 0) (ev : v ≡ x) where
+    module _ (pos : 0 < k) (most : k ≤ p) (v : ℕ) (ev : v ≡ get_or w (k - 1) 0) where
       pub expand_key : v < key_count l s
       expand_key =
           let n : length (table_keys l s) ≡ length (keys_of l s) = keys_many l s in
-          let q : v ≡ key_at l s (k - 1) = ev ∙ ex ∙ E.front (k - 1) (omega arith) in
+          let q : v ≡ key_at l s (k - 1) = ev ∙ E.front (k - 1) (omega arith) in
           rw q (key_below l s (k - 1) (omega (arith, S.number)))
 
       pub expand_word : key_count l s < 4294967295 → v < 4294967295
@@ -47,7 +47,7 @@ module _ (l : List ℕ) (s : Bool) (p : ℕ) (b t : List ℕ) (S : Settled l s p
 
       pub expand_more : (w' : List ℕ) → Room l s b t → w' ≡ sets w (place_in s (k - 1)) (key_words l s v) → Expanding l s p (k - 1) b w'
       expand_more w' R ew =
-          expand_step l s p b w w' k E x v S.number (let y : place_in s p ≤ length b = rw S.number R.words in y) pos most ex ev ew
+          expand_step l s p b w w' k E v v S.number (let y : place_in s p ≤ length b = rw S.number R.words in y) pos most ev refl ew
 
     pub expand_all : k ≤ 0 → w ≡ put b 0 (table_words l s)
     expand_all h = expand_end l s p b w w k E S.number h

@@ -1,6 +1,6 @@
 -- Laws for the functions that make one table.
 use Prim.Native.Nat.{ℕ, ◌+◌, ◌<◌, ◌≤◌}
-use mathlib.Core.Path.{◌≡◌, refl, ap, ◌∙◌}
+use mathlib.Core.Path.{◌≡◌, ap, ◌∙◌}
 use mathlib.Core.Bool.{Bool}
 use mathlib.Core.List.{List}
 use native.Mathlib.Omega.{arith}
@@ -11,9 +11,9 @@ use Rattle.format.proofs.TableKeys.{keys_many, key_below}
 use Rattle.format.specs.Distinct.{tally}
 use Rattle.format.specs.Order.{ordered}
 use Rattle.keys.specs.Keys.{place_in}
-use Rattle.distinct.specs.Gathered.{Filled, FilledIf}
+use Rattle.distinct.specs.Gathered.{Filled}
 use Rattle.order.specs.Arrange.{get_d0, Counted, Holds}
-use Rattle.entries.specs.Runs.{key_at, Ready, Stored, Made, MadeIf}
+use Rattle.entries.specs.Runs.{key_at, Ready, Stored, Made}
 use Rattle.keys.specs.Runs.{Room}
 use Rattle.slots.proofs.Cases.{kept}
 use Rattle.entries.proofs.TableLaw.{stored_none, stored_more, stored_all, ready}
@@ -24,25 +24,25 @@ module _ (l : List ℕ) (s : Bool) (p : ℕ) (f c o : List ℕ) (R : Ready l s p
   pub below_table : k < length (keys_of l s)
   below_table = omega (arith, R.number)
 
-  module _ (x r : ℕ) (ex : x ≡ get_or o k 0) (er : r ≡ x) where
-    at_key : (y v : ℕ) → y ≡ get_or f r 0 → v ≡ y → v ≡ key_at l s k
-    at_key y v ey ev = ev ∙ ey ∙ ap (λ (j : ℕ). get_or f j 0) (er ∙ ex) ∙ R.keys k h
+  module _ (r : ℕ) (er : r ≡ get_or o k 0) where
+    at_key : (v : ℕ) → v ≡ get_or f r 0 → v ≡ key_at l s k
+    at_key v ev = ev ∙ ap (λ (j : ℕ). get_or f j 0) er ∙ R.keys k h
 
-    pub emit_key : (y v : ℕ) → y ≡ get_or f r 0 → v ≡ y → v < key_count l s
-    emit_key y v ey ev =
+    pub emit_key : (v : ℕ) → v ≡ get_or f r 0 → v < key_count l s
+    emit_key v ev =
         let n : length (table_keys l s) ≡ length (keys_of l s) = keys_many l s in
         let b : key_at l s k < key_count l s = key_below l s k (omega (arith, R.number)) in
-        rw (at_key y v ey ev) b
+        rw (at_key v ev) b
 
-    pub emit_word : (y v : ℕ) → y ≡ get_or f r 0 → v ≡ y → key_count l s < 4294967295 → v < 4294967295
-    emit_word y v ey ev g = let b : v < key_count l s = emit_key y v ey ev in omega arith
+    pub emit_word : (v : ℕ) → v ≡ get_or f r 0 → key_count l s < 4294967295 → v < 4294967295
+    emit_word v ev g = let b : v < key_count l s = emit_key v ev in omega arith
 
-    pub emit_words : (y v : ℕ) (w w' : List ℕ) → y ≡ get_or f r 0 → v ≡ y → w' ≡ sets w (place_in s k) (key_words l s v)
+    pub emit_words : (v : ℕ) (w w' : List ℕ) → v ≡ get_or f r 0 → w' ≡ sets w (place_in s k) (key_words l s v)
         → w' ≡ sets w (place_in s k) (key_words l s (key_at l s k))
-    emit_words y v w w' ey ev e = e ∙ ap (λ (j : ℕ). sets w (place_in s k) (key_words l s j)) (at_key y v ey ev)
+    emit_words v w w' ev e = e ∙ ap (λ (j : ℕ). sets w (place_in s k) (key_words l s j)) (at_key v ev)
 
     pub emit_count : (y : ℕ) (t t' : List ℕ) → y ≡ get_or c r 0 → t' ≡ set t k y → t' ≡ set t k (times_of l s (key_at l s k))
-    emit_count y t t' ey e = e ∙ ap (set t k) (ey ∙ ap (λ (j : ℕ). get_or c j 0) (er ∙ ex) ∙ R.counts k h)
+    emit_count y t t' ey e = e ∙ ap (set t k) (ey ∙ ap (λ (j : ℕ). get_or c j 0) er ∙ R.counts k h)
 
 pub ruleset emit_one_cases = (emit_key, emit_word, emit_words, emit_count)
 
@@ -75,9 +75,8 @@ pub counted_any : (cs cs' h : List ℕ) → Counted cs 0 h → Counted cs' 0 h
 unfolding Counted tally
 counted_any cs cs' h k = k
 
-module _ (l : List ℕ) (s : Bool) (m N n p : ℕ) (t f c : List ℕ) (F : FilledIf m l s 1 0 N n p t f c) (h : p ≤ m) where
-  pub through_filled : (N' : ℕ) → n ≡ key_count l s → N' ≡ N → Filled l s 1 0 N' (key_count l s) p t f c
-  through_filled N' e i = rw i (rw e at (F.filled h))
+pub through_filled : (l : List ℕ) (s : Bool) (N N' p : ℕ) (t f c : List ℕ) → Filled l s 1 0 N (key_count l s) p t f c → N' ≡ N → Filled l s 1 0 N' (key_count l s) p t f c
+through_filled l s N N' p t f c F i = rw i F
 
 module _ (p f₀ t₀ : ℕ) (h : p ≤ f₀) (g : f₀ ≤ t₀) where
   pub within_word : t₀ ≤ 1048576 → p < 4294967295
@@ -89,19 +88,9 @@ module _ (p f₀ t₀ : ℕ) (h : p ≤ f₀) (g : f₀ ≤ t₀) where
 pub within_counts : (p f₀ c₀ c₁ : ℕ) → p ≤ f₀ → c₀ ≡ f₀ → c₁ ≡ c₀ → p ≤ c₁
 within_counts p f₀ c₀ c₁ h a b = omega arith
 
-module _ (l : List ℕ) (s : Bool) (m r : ℕ) (w w' t t' : List ℕ) where
-  pub made_many : m < r → MadeIf l s m r w w t t
-  made_many h = record { made = λ g. absurd (omega arith); none = λ _. (refl, refl) }
-
-  pub made_all : Made l s r w w' t t' → r ≤ m → MadeIf l s m r w w' t t'
-  made_all M h = record { made = λ _. M; none = λ g. absurd (omega arith) }
-
-pub ruleset through_cases = (kept, counted_any, through_filled, within_word, within_table, within_counts, made_many, made_all)
+pub ruleset through_cases = (kept, counted_any, through_filled, within_word, within_table, within_counts)
 
 -- ---- arrays of zeros
-
-pub made_zeros : (l : List ℕ) (s : Bool) (m r : ℕ) (w w' t t' : List ℕ) → MadeIf l s (length (replicate {A = ℕ} m 0)) r w w' t t' → MadeIf l s m r w w' t t'
-made_zeros l s m r w w' t t' M = rw (length-replicate {A = ℕ} m 0) at M
 
 pub zeros_le : (f t : ℕ) → f ≤ t → length (replicate {A = ℕ} f 0) ≤ length (replicate {A = ℕ} t 0)
 zeros_le f t h = rw (length-replicate {A = ℕ} f 0, length-replicate {A = ℕ} t 0) h

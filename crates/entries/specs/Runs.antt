@@ -1,5 +1,5 @@
 -- What the lent runs of one table hold, at the end and on the way there.
-use Rattle.std.specs.Prelude.{ℕ, ◌<◌, ◌≤◌, ◌≡◌, Bool, List, map, length, get_or, take}
+use Rattle.std.specs.Prelude.{ℕ, ◌<◌, ◌≡◌, Bool, List, Option, MatchOption, map, length, get_or, take}
 use Rattle.format.specs.Word.{put}
 use Rattle.format.specs.MakeTables.{keys_of, times_of, table_keys, words_of, table_words, table_counts}
 
@@ -25,7 +25,6 @@ module _ (l : List ℕ) (symbols : Bool) where
     pub words : w' ≡ put w 0 (table_words l symbols)
     pub tallies : t' ≡ put t 0 (table_counts l symbols)
 
-  -- the same if r is within the room of the arrays; else nothing has changed
-  pub record MadeIf (room r : ℕ) (w w' t t' : List ℕ) : Type 0 where
-    pub made : r ≤ room → Made r w w' t t'
-    pub none : room < r → (w' ≡ w) × (t' ≡ t)
+  -- the same where the number of keys is known; else nothing has changed
+  abbrev pub MadeIf : Option ℕ → List ℕ → List ℕ → List ℕ → List ℕ → Type 0
+  MadeIf r w w' t t' = MatchOption r ((w' ≡ w) × (t' ≡ t)) (λ p. Made p w w' t t')

@@ -10,18 +10,23 @@ ghost use Rattle.keys.specs.Runs.{Room};
 
 use crate::settle::settle;
 use distinct::classes::by_classes;
-use distinct::count::level_after;
 use distinct::gather::gather;
 use distinct::scan::scan;
-use keys::key::{key_count, limit_of, put_key};
+use distinct::sizes::{
+    MIDDLE_MOST, MIDDLE_ROOM, MIDDLE_SLOTS, SMALL_ROOM, SMALL_SLOTS, WIDE_ROOM, WIDE_SLOTS,
+};
+use keys::key::{Keys, limit_of};
 use keys::run::{get_at, set_at};
 use order::arrange::arrange;
-use slots::probe::size;
+
+// Counts below these are counted themselves when the keys are put in order.
+const SMALL_STARTS: usize = 1024;
+
+const MOST_STARTS: usize = 4096;
 
 // Stores the table's k-th key and its count.
 fn emit_one(
-    l: &[u32],
-    symbols: bool,
+    keys: &Keys,
     p: usize,
     k: usize,
     firsts: &[u32],
@@ -30,23 +35,22 @@ fn emit_one(
     words: &mut [u32],
     tallies: &mut [u32],
 )
-    requires k_lt_p { (k < p) × (p < 4294967295) × (key_count l.now symbols < 4294967295) }
-    requires ready { Ready l.now symbols p firsts.now counts.now order.now }
-    ensures words_after { words.new ≡ sets words.old (place_in symbols k)
-        (key_words l.now symbols (key_at l.now symbols k)) }
+    requires k_lt_p { (k < p) × (p < 4294967295) }
+    requires ready { Ready keys.now.list.now keys.now.symbols p firsts.now counts.now order.now }
+    ensures words_after { words.new ≡ sets words.old (place_in keys.now.symbols k)
+        (key_words keys.now.list.now keys.now.symbols (key_at keys.now.list.now keys.now.symbols k)) }
     ensures tallies_after { tallies.new ≡ set tallies.old k
-        (times_of l.now symbols (key_at l.now symbols k)) }
+        (times_of keys.now.list.now keys.now.symbols (key_at keys.now.list.now keys.now.symbols k)) }
 {
-    let r = size(get_at(order, k));
-    let v = size(get_at(firsts, r));
+    let r = get_at(order, k) as usize;
+    let v = get_at(firsts, r) as usize;
     let x = get_at(counts, r);
-    put_key(l, symbols, v, words, k);
+    keys.put(v, words, k);
     set_at(tallies, k, x);
 }
 
 fn emit(
-    l: &[u32],
-    symbols: bool,
+    keys: &Keys,
     p: usize,
     firsts: &[u32],
     counts: &[u32],
@@ -54,23 +58,20 @@ fn emit(
     words: &mut [u32],
     tallies: &mut [u32],
 )
-    requires p_bound { (p < 4294967295) × (key_count l.now symbols < 4294967295) }
-    requires ready { Ready l.now symbols p firsts.now counts.now order.now }
-    requires room { Room l.now symbols words.old tallies.old }
-    ensures { Made l.now symbols p
+    requires p_bound { p < 4294967295 }
+    requires ready { Ready keys.now.list.now keys.now.symbols p firsts.now counts.now order.now }
+    requires room { Room keys.now.list.now keys.now.symbols words.old tallies.old }
+    ensures { Made keys.now.list.now keys.now.symbols p
         words.old words.new tallies.old tallies.new }
 {
-    let mut k: usize = 0;
-    while k < p {
-        emit_one(l, symbols, p, k, firsts, counts, order, words, tallies);
-        k = k + 1;
+    for k in 0..p {
+        emit_one(keys, p, k, firsts, counts, order, words, tallies);
     }
 }
 
 // The table, with all keys gathered.
 fn finish(
-    l: &[u32],
-    symbols: bool,
+    keys: &Keys,
     p: usize,
     words: &mut [u32],
     tallies: &mut [u32],
@@ -79,111 +80,60 @@ fn finish(
     counts: &[u32],
     starts: &mut [u32],
 )
-    requires p_bound { (p < 4294967295) × (key_count l.now symbols < 4294967295) }
+    requires p_bound { p < 4294967295 }
     requires p_in_bounds { (p ≤ length table.old) × (p ≤ length counts.now) × Counted counts.now 0 starts.old }
-    requires filled { Filled l.now symbols 1 0 (length table.old)
-        (key_count l.now symbols) p table.old firsts.now counts.now }
-    requires room { Room l.now symbols words.old tallies.old }
-    ensures { Made l.now symbols p
+    requires filled { Filled keys.now.list.now keys.now.symbols 1 0 (length table.old)
+        (key_count keys.now.list.now keys.now.symbols) p table.old firsts.now counts.now }
+    requires room { Room keys.now.list.now keys.now.symbols words.old tallies.old }
+    ensures { Made keys.now.list.now keys.now.symbols p
         words.old words.new tallies.old tallies.new }
 {
-    arrange(counts, p, limit_of(symbols), starts, table);
-    emit(l, symbols, p, firsts, counts, table, words, tallies);
+    arrange(counts, p, limit_of(keys.symbols), starts, table);
+    emit(keys, p, firsts, counts, table, words, tallies);
 }
 
-// The table, with the arrays that it takes. The answer is the number of keys, or more than the arrays have room for.
+// The table, with the arrays that it takes. The answer is the number of keys, if the arrays have room for them.
 fn through(
-    l: &[u32],
-    symbols: bool,
-    n: usize,
+    keys: &Keys,
     words: &mut [u32],
     tallies: &mut [u32],
     table: &mut [u32],
     firsts: &mut [u32],
     counts: &mut [u32],
     starts: &mut [u32],
-) -> usize
-    requires n_value { (n ≡ key_count l.now symbols) × (n < 4294967295) }
+) -> Option<usize>
     requires table_nonzero { (0 < length table.old) × (length table.old ≤ 1048576)
         × (length firsts.old ≤ length table.old) }
     requires counts_len { (length counts.old ≡ length firsts.old) × Counted counts.old 0 starts.old }
-    requires filled { Filled l.now symbols 1 0 (length table.old) 0 0 table.old firsts.old counts.old }
-    requires room { Room l.now symbols words.old tallies.old }
-    ensures { MadeIf l.now symbols (length firsts.old) result
+    requires filled { Filled keys.now.list.now keys.now.symbols 1 0 (length table.old) 0 0 table.old firsts.old counts.old }
+    requires room { Room keys.now.list.now keys.now.symbols words.old tallies.old }
+    ensures { MadeIf keys.now.list.now keys.now.symbols result
         words.old words.new tallies.old tallies.new }
 {
-    let room = firsts.len();
-    let p = gather(l, symbols, 1, 0, n, table, firsts, counts);
-    if room < p {
-        return p;
-    }
-    finish(l, symbols, p, words, tallies, table, firsts, counts, starts);
-    p
+    let p = gather(keys, 1, 0, table, firsts, counts)?;
+    finish(keys, p, words, tallies, table, firsts, counts, starts);
+    Some(p)
 }
 
-// The table, if there are no more than 1,024 keys.
-fn small(l: &[u32], symbols: bool, n: usize, words: &mut [u32], tallies: &mut [u32]) -> usize
-    requires n_value { (n ≡ key_count l.now symbols) × (n < 4294967295) }
-    requires room { Room l.now symbols words.old tallies.old }
-    ensures { MadeIf l.now symbols 1024 result
+// The table, if there is room for its keys in arrays of these sizes, which are in a frame of their own.
+#[inline(never)]
+fn table_in<const SLOTS: usize, const ROOM: usize, const STARTS: usize>(
+    keys: &Keys,
+    words: &mut [u32],
+    tallies: &mut [u32],
+) -> Option<usize>
+    requires sizes { (0 < SLOTS) × (SLOTS ≤ 1048576) × (ROOM ≤ SLOTS)
+        × (STARTS ≤ 1048576) }
+    requires room { Room keys.now.list.now keys.now.symbols words.old tallies.old }
+    ensures { MadeIf keys.now.list.now keys.now.symbols result
         words.old words.new tallies.old tallies.new }
 {
-    let mut table = [0u32; 2048];
-    let mut firsts = [0u32; 1024];
-    let mut counts = [0u32; 1024];
-    let mut starts = [0u32; 1024];
+    let mut table = [0u32; SLOTS];
+    let mut firsts = [0u32; ROOM];
+    let mut counts = [0u32; ROOM];
+    let mut starts = [0u32; STARTS];
     through(
-        l,
-        symbols,
-        n,
-        words,
-        tallies,
-        &mut table,
-        &mut firsts,
-        &mut counts,
-        &mut starts,
-    )
-}
-
-// The table, if there are no more than 32,768 keys.
-fn middle(l: &[u32], symbols: bool, n: usize, words: &mut [u32], tallies: &mut [u32]) -> usize
-    requires n_value { (n ≡ key_count l.now symbols) × (n < 4294967295) }
-    requires room { Room l.now symbols words.old tallies.old }
-    ensures { MadeIf l.now symbols 32768 result
-        words.old words.new tallies.old tallies.new }
-{
-    let mut table = [0u32; 65536];
-    let mut firsts = [0u32; 32768];
-    let mut counts = [0u32; 32768];
-    let mut starts = [0u32; 4096];
-    through(
-        l,
-        symbols,
-        n,
-        words,
-        tallies,
-        &mut table,
-        &mut firsts,
-        &mut counts,
-        &mut starts,
-    )
-}
-
-// The table, if there are no more than 65,536 keys.
-fn wide(l: &[u32], symbols: bool, n: usize, words: &mut [u32], tallies: &mut [u32]) -> usize
-    requires n_value { (n ≡ key_count l.now symbols) × (n < 4294967295) }
-    requires room { Room l.now symbols words.old tallies.old }
-    ensures { MadeIf l.now symbols 65536 result
-        words.old words.new tallies.old tallies.new }
-{
-    let mut table = [0u32; 98304];
-    let mut firsts = [0u32; 65536];
-    let mut counts = [0u32; 65536];
-    let mut starts = [0u32; 4096];
-    through(
-        l,
-        symbols,
-        n,
+        keys,
         words,
         tallies,
         &mut table,
@@ -194,78 +144,47 @@ fn wide(l: &[u32], symbols: bool, n: usize, words: &mut [u32], tallies: &mut [u3
 }
 
 // The table, for any keys: slow.
-fn slow(l: &[u32], symbols: bool, n: usize, words: &mut [u32], tallies: &mut [u32]) -> usize
-    requires n_value { (n ≡ key_count l.now symbols) × (n < 4294967295) }
-    requires room { Room l.now symbols words.old tallies.old }
-    ensures { Made l.now symbols result
+fn slow(keys: &Keys, words: &mut [u32], tallies: &mut [u32]) -> usize
+    requires room { Room keys.now.list.now keys.now.symbols words.old tallies.old }
+    ensures { Made keys.now.list.now keys.now.symbols result
         words.old words.new tallies.old tallies.new }
 {
-    let p = scan(l, symbols, n, words, tallies);
-    settle(l, symbols, p, words, tallies);
+    let p = scan(keys, words, tallies);
+    settle(keys, p, words, tallies);
     p
 }
 
 // The table, however many keys there are.
-fn large(l: &[u32], symbols: bool, n: usize, words: &mut [u32], tallies: &mut [u32]) -> usize
-    requires n_value { (n ≡ key_count l.now symbols) × (n < 4294967295) }
-    requires room { Room l.now symbols words.old tallies.old }
-    ensures { Made l.now symbols result
+fn large(keys: &Keys, words: &mut [u32], tallies: &mut [u32]) -> usize
+    requires room { Room keys.now.list.now keys.now.symbols words.old tallies.old }
+    ensures { Made keys.now.list.now keys.now.symbols result
         words.old words.new tallies.old tallies.new }
 {
-    let p = by_classes(l, symbols, n, words, tallies);
-    if p < 4294967295 {
-        settle(l, symbols, p, words, tallies);
+    if let Some(p) = by_classes(keys, words, tallies) {
+        settle(keys, p, words, tallies);
         return p;
     }
-    slow(l, symbols, n, words, tallies)
+    slow(keys, words, tallies)
 }
 
-// Small arrays first, then larger ones. The call of itself keeps each size's arrays in a frame of their own.
-fn tries(
-    l: &[u32],
-    symbols: bool,
-    n: usize,
-    level: usize,
-    words: &mut [u32],
-    tallies: &mut [u32],
-) -> usize
-    requires n_value { (n ≡ key_count l.now symbols) × (n < 4294967295) }
-    requires room { Room l.now symbols words.old tallies.old }
-    ensures { Made l.now symbols result
-        words.old words.new tallies.old tallies.new }
-{
-    if level == 0 {
-        let p = small(l, symbols, n, words, tallies);
-        if p <= 1024 {
-            return p;
-        }
-        return tries(l, symbols, n, level_after(n), words, tallies);
-    }
-    if level == 1 {
-        let p = middle(l, symbols, n, words, tallies);
-        if p <= 32768 {
-            return p;
-        }
-        return tries(l, symbols, n, 2, words, tallies);
-    }
-    if level == 2 {
-        let p = wide(l, symbols, n, words, tallies);
-        if p <= 65536 {
-            return p;
-        }
-        return tries(l, symbols, n, 3, words, tallies);
-    }
-    large(l, symbols, n, words, tallies)
-}
-
-// The table of one kind of keys. The answer is the number of keys.
-pub fn make_table(l: &[u32], symbols: bool, words: &mut [u32], tallies: &mut [u32]) -> usize
-    requires symbols_bound { key_count l.now symbols < 4294967295 }
-    requires room { Room l.now symbols words.old tallies.old }
+// The table of one kind of keys, with small arrays first, then larger ones, then class by class. The answer is the
+// number of keys.
+pub fn make_table(keys: &Keys, words: &mut [u32], tallies: &mut [u32]) -> usize
+    requires room { Room keys.now.list.now keys.now.symbols words.old tallies.old }
     ensures upper_bound { result < 4294967295 }
-    ensures made { Made l.now symbols result
+    ensures made { Made keys.now.list.now keys.now.symbols result
         words.old words.new tallies.old tallies.new }
 {
-    let n = key_count(l, symbols);
-    tries(l, symbols, n, 0, words, tallies)
+    if let Some(p) = table_in::<SMALL_SLOTS, SMALL_ROOM, SMALL_STARTS>(keys, words, tallies) {
+        return p;
+    }
+    if keys.count() <= MIDDLE_MOST {
+        if let Some(p) = table_in::<MIDDLE_SLOTS, MIDDLE_ROOM, MOST_STARTS>(keys, words, tallies) {
+            return p;
+        }
+    }
+    if let Some(p) = table_in::<WIDE_SLOTS, WIDE_ROOM, MOST_STARTS>(keys, words, tallies) {
+        return p;
+    }
+    large(keys, words, tallies)
 }

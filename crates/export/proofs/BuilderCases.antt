@@ -3,6 +3,7 @@ use Prim.Native.Nat.{ℕ, ◌<◌}
 use mathlib.Core.Bool.{Bool, true, false}
 use mathlib.Core.Path.{◌≡◌, refl, ap, ◌∙◌, subst}
 use mathlib.Core.List.{List, [], ◌∷◌}
+use Rattle.std.specs.Prelude.{Result, Ok, Err}
 use Rattle.format.specs.Verdict as format
 use Rattle.format.specs.Width.{span_size}
 use Rattle.format.specs.Builder.{Step, builder_step, new_verdict, new, point_verdict, restore_point}
@@ -10,7 +11,6 @@ use Rattle.format.specs.Builder as steps
 use Rattle.tree.specs.Types.{words_of}
 use Rattle.tree.specs.Refusal.{verdict_answer}
 use Rattle.tree.specs.declared.refusal.Refusal.{Refusal}
-use Rattle.tree.specs.declared.refusal.Report.{Report}
 use Rattle.tree.specs.declared.types.Span.{Span}
 use Rattle.builder.specs.State.{seen}
 use Rattle.builder.specs.Restoring.{point_answer}
@@ -19,8 +19,6 @@ use Rattle.builder.specs.Building.{Built, BuiltSkipping}
 use Rattle.builder.specs.declared.state.Builder.{Builder}
 use Rattle.builder.specs.declared.state.Point.{Point}
 use Rattle.builder.specs.declared.state.Stepped.{Stepped}
-use Rattle.builder.specs.declared.restore.PointTaken.{PointTaken}
-use Rattle.builder.specs.declared.restore.PointTaken.TheVariants as taken
 use Rattle.export.specs.Replies.{refused_code, verdict_code, report_code}
 use Rattle.export.specs.Roots.{span_in}
 use Rattle.export.specs.Builders.{lent, state_list, StepStored, Handed, NewReplied, StepReplied, PointReplied, BuildReplied}
@@ -72,16 +70,16 @@ module _ (s : Stepped) (r : ℕ) (next' opened' : List ℕ) (p : StepStored s r 
 
 -- ---- points
 
-module _ (n d : ℕ) (a l w : List ℕ) (q : PointTaken) (e : q ≡ point_answer (point_verdict l (seen (lent n d a))) (restore_point l (seen (lent n d a)))) where
-  pub point_refused : (f : Refusal) (r : ℕ) → q ≡ taken.Refused f → r ≡ refused_code f → PointReplied (lent n d a) l w r w
+module _ (n d : ℕ) (a l w : List ℕ) (q : Result Point Refusal) (e : q ≡ point_answer (point_verdict l (seen (lent n d a))) (restore_point l (seen (lent n d a)))) where
+  pub point_refused : (f : Refusal) (r : ℕ) → q ≡ Err f → r ≡ refused_code f → PointReplied (lent n d a) l w r w
   point_refused f r k h = record { reply = simp (← e, k) h; contents = simp (← e, k) }
 
-  pub point_taken : (p : Point) → q ≡ taken.Point p → PointReplied (lent n d a) l w 0 (p.trees ∷ p.opened ∷ [])
+  pub point_taken : (p : Point) → q ≡ Ok p → PointReplied (lent n d a) l w 0 (p.trees ∷ p.opened ∷ [])
   point_taken p k = record { reply = simp (← e, k); contents = simp (← e, k) }
 
 -- ---- building
 
-module _ (n d : ℕ) (a l parts symbols work out : List ℕ) (skips : Bool) (q : Report) (r : ℕ) (work' out' : List ℕ) (c : r ≡ report_code q) where
+module _ (n d : ℕ) (a l parts symbols work out : List ℕ) (skips : Bool) (q : Result ℕ Refusal) (r : ℕ) (work' out' : List ℕ) (c : r ≡ report_code q) where
   pub build_skips : skips ≡ true → BuiltSkipping (lent n d a) l parts symbols work out q work' out'
       → BuildReplied (lent n d a) skips l parts symbols work out r work' out'
   build_skips e h = record { reply = c ∙ rw e (ap report_code h.answer); words = rw e h.works; bytes = rw e h.outs }

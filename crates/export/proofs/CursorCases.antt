@@ -1,11 +1,12 @@
 -- One law for each return of a cursor's functions.
 use Prim.Native.Nat.{ℕ, zero, suc, ◌*◌, ◌<◌, ◌≤◌}
-use mathlib.Core.Bool.{true, false, not}
+use mathlib.Core.Bool.{true, false}
 use mathlib.Core.Path.{◌≡◌, refl, sym, ap, ◌∙◌, subst}
 use mathlib.Core.List.{List, [], ◌∷◌, ◌++◌}
 use native.Mathlib.Omega.{arith}
-use borrow.Author.Tests.{lt-ltb, le-ltb, not-true, not-false}
+use borrow.Author.Tests.{lt-ltb, le-ltb}
 use lib.ListN.{length, get_or}
+use Rattle.std.specs.Prelude.{Option, Some, None, Result, Ok, Err}
 use Rattle.format.specs.Word.{put}
 use Rattle.format.specs.Reader as format
 use Rattle.format.specs.Reader.{Reader}
@@ -22,10 +23,9 @@ use Rattle.cursor.specs.Plan.{answer_of}
 use Rattle.cursor.specs.Moves.{state_of, written, Moves}
 use Rattle.cursor.specs.Look.{ahead_of, both_of, peek_of, Tells, Peeks}
 use Rattle.cursor.specs.declared.state.At.{At}
-use Rattle.cursor.specs.declared.plan.Answer.{Answer}
-use Rattle.cursor.specs.declared.plan.Answer.TheVariants as answers
+use Rattle.cursor.specs.declared.plan.Reply.{Reply}
+use Rattle.cursor.specs.declared.plan.Reply.TheVariants as kinds
 use Rattle.cursor.specs.declared.look.Ahead.{Ahead}
-use Rattle.cursor.specs.declared.look.TwoLeaves.{TwoLeaves}
 use Rattle.cursor.proofs.OpenReturns.{opened_length}
 use Rattle.cursor.proofs.MovesReturns.{written_none}
 use Rattle.cursor.proofs.CursorRule.{looking}
@@ -33,34 +33,47 @@ use Rattle.export.specs.Replies.{refused_code}
 use Rattle.export.specs.Steps.{reported_size, report_list, answer_list, Replied}
 use Rattle.export.specs.Cursors.{call_of, at_list, ahead_list, AnswerStored, BothStored, LeavesStored, said, called, Called, CursorReplied}
 
+-- an inner part of an answer
+pub reply_is : (x : Result Reply Refusal) (o v : Reply) → x ≡ Ok o → o ≡ v → x ≡ Ok v
+reply_is x o v e d = e ∙ ap Ok d
+
+pub ahead_is : (x : Result (Option (List Ahead)) Refusal) (o v : Option (List Ahead)) → x ≡ Ok o → o ≡ v → x ≡ Ok v
+ahead_is x o v e d = e ∙ ap Ok d
+
 -- ---- what is stored
 
-module _ (a : Answer) (c : At) (next words : List ℕ) where
-  pub answer_refused : (f : Refusal) (r : ℕ) → a ≡ answers.Refused f → r ≡ refused_code f → AnswerStored a c next words r next words
+module _ (a : Result Reply Refusal) (c : At) (next words : List ℕ) where
+  pub answer_refused : (f : Refusal) (r : ℕ) → a ≡ Err f → r ≡ refused_code f → AnswerStored a c next words r next words
   unfolding answer_report answer_of
   answer_refused f r e q = record { replied = record { reply = simp e q; after = simp e; handed = simp e } }
 
   module _ (next' : List ℕ) (n : next' ≡ put next 0 (at_list c)) where
-    pub answer_none : a ≡ answers.None → AnswerStored a c next words 0 next' words
+    pub answer_none : a ≡ Ok kinds.None → AnswerStored a c next words 0 next' words
     unfolding answer_report answer_of
     answer_none e = record { replied = record { reply = simp e; after = simp e n; handed = simp e } }
 
-    pub answer_done : a ≡ answers.Done → AnswerStored a c next words 3 next' words
+    pub answer_done : a ≡ Ok kinds.Done → AnswerStored a c next words 3 next' words
     unfolding answer_report answer_of
     answer_done e = record { replied = record { reply = simp e; after = simp e n; handed = simp e } }
 
-    pub answer_tree : (t : ReportedTree) (ts words' : List ℕ) → a ≡ answers.Tree t → ts ≡ tree_words_of t.tree → words' ≡ put words 0 (report_list (ts, loose_of t.loose))
+    pub answer_tree : (t : ReportedTree) (ts words' : List ℕ) → a ≡ Ok (kinds.Tree t) → ts ≡ tree_words_of t.tree → words' ≡ put words 0 (report_list (ts, loose_of t.loose))
         → AnswerStored a c next words 1 next' words'
     unfolding answer_report answer_of
     answer_tree t ts words' e d q = record { replied = record { reply = simp e; after = simp e n; handed = simp e (q ∙ ap (λ (u : List ℕ). put words 0 (report_list (u, loose_of t.loose))) d) } }
 
-pub leaves_otherwise : (l : TwoLeaves) (c : At) (next words : List ℕ) (r : ℕ) (next' words' : List ℕ) → not l.found ≡ true
-    → AnswerStored l.otherwise c next words r next' words' → LeavesStored l c next words r next' words'
-unfolding peek_of
-leaves_otherwise l c next words r next' words' h q =
-    let f : l.found ≡ false = not-true l.found h in
-    let p = q.replied in
-    record { replied = record { reply = simp f p.reply; after = simp f p.after; handed = simp f p.handed } }
+module _ (l : Result (Option (List Ahead)) Refusal) (c : At) (next words : List ℕ) where
+  pub leaves_refused : (f : Refusal) (r : ℕ) → l ≡ Err f → r ≡ refused_code f → LeavesStored l c next words r next words
+  unfolding answer_report peek_of
+  leaves_refused f r e q = record { replied = record { reply = simp e q; after = simp e; handed = simp e } }
+
+  pub leaves_none : (next' : List ℕ) → next' ≡ put next 0 (at_list c) → l ≡ Ok None → LeavesStored l c next words 0 next' words
+  unfolding answer_report peek_of
+  leaves_none next' n e = record { replied = record { reply = simp e; after = simp e n; handed = simp e } }
+
+  pub leaves_found : (ls : List Ahead) (r : ℕ) (next' words' : List ℕ) → l ≡ Ok (Some ls) → BothStored ls c next words r next' words'
+      → LeavesStored l c next words r next' words'
+  unfolding peek_of
+  leaves_found ls r next' words' e q = let p = q.replied in record { replied = record { reply = simp e p.reply; after = simp e p.after; handed = simp e p.handed } }
 
 both : (ls : List Ahead) (d₀ d₁ : Ahead) → length ls ≡ 2 → both_of ls ≡ format.two (ahead_of (get_or ls 0 d₀)) (ahead_of (get_or ls 1 d₁))
 both [] d₀ d₁ h = absurd (omega arith)
@@ -76,14 +89,6 @@ module _ (ls : List Ahead) (h : length ls ≡ 2) (d₀ d₁ : Ahead) where
       → BothStored ls c next words 2 next' words'
   leaves_both c next words next' words' n w =
       let e = two_words_lem in record { replied = record { reply = simp e; after = simp e n; handed = simp e w } }
-
-pub leaves_found : (l : TwoLeaves) (c : At) (next words : List ℕ) (r : ℕ) (next' words' : List ℕ) → not l.found ≡ false
-    → BothStored l.leaves c next words r next' words' → LeavesStored l c next words r next' words'
-unfolding peek_of
-leaves_found l c next words r next' words' h q =
-    let f : l.found ≡ true = not-false l.found h in
-    let p = q.replied in
-    record { replied = record { reply = simp f p.reply; after = simp f p.after; handed = simp f p.handed } }
 
 -- ---- what a call says and leaves
 
@@ -109,11 +114,11 @@ module _ (b : List ℕ) (k : ℕ) (parts symbols : List ℕ) (c : At) (ns cs ps 
         places = written_none (λ o. o.place) ps c.depth C.opened l ∙ ap (λ (x : calls.Cursor). written (λ o. o.place) ps c.depth x.opened) (sym s);
       }
 
-  moves : (call : CursorCall) (a : Answer) (c' : At) (ns' cs' ps' : List ℕ) → Moves b k parts symbols call c ns cs ps a c' ns' cs' ps'
+  moves : (call : CursorCall) (a : Result Reply Refusal) (c' : At) (ns' cs' ps' : List ℕ) → Moves b k parts symbols call c ns cs ps a c' ns' cs' ps'
       → Called b k parts symbols call c ns cs ps (answer_list (answer_report (answer_of a))) c' ns' cs' ps'
   moves call a c' ns' cs' ps' m = record { answer = ap answer_list m.reports; state = m.state; numbers = m.numbers; counts = m.counts; places = m.places }
 
-  module _ (n : ℕ) (a : Answer) (c' : At) (ns' cs' ps' : List ℕ) where
+  module _ (n : ℕ) (a : Result Reply Refusal) (c' : At) (ns' cs' ps' : List ℕ) where
     pub call_bump : n ≡ 0 → Moves b k parts symbols bump c ns cs ps a c' ns' cs' ps' → Called b k parts symbols (call_of n) c ns cs ps (answer_list (answer_report (answer_of a))) c' ns' cs' ps'
     call_bump e m = rw e (moves bump a c' ns' cs' ps' m)
 
@@ -123,13 +128,13 @@ module _ (b : List ℕ) (k : ℕ) (parts symbols : List ℕ) (c : At) (ns cs ps 
     pub call_bump_or_end : n ≡ 2 → Moves b k parts symbols bump_or_end c ns cs ps a c' ns' cs' ps' → Called b k parts symbols (call_of n) c ns cs ps (answer_list (answer_report (answer_of a))) c' ns' cs' ps'
     call_bump_or_end e m = rw e (moves bump_or_end a c' ns' cs' ps' m)
 
-  pub call_token_tree : (n : ℕ) (a : Answer) → n ≤ 3 → (n ≡ 0 → ⊥) → (n ≡ 1 → ⊥) → (n ≡ 2 → ⊥) → Tells b k parts symbols c ns cs ps a
+  pub call_token_tree : (n : ℕ) (a : Result Reply Refusal) → n ≤ 3 → (n ≡ 0 → ⊥) → (n ≡ 1 → ⊥) → (n ≡ 2 → ⊥) → Tells b k parts symbols c ns cs ps a
       → Called b k parts symbols (call_of n) c ns cs ps (answer_list (answer_report (answer_of a))) c ns cs ps
   call_token_tree n a h f g i t =
       let e : n ≡ 3 = omega arith in
       rw e (stays token_tree (answer_list (answer_report (answer_of a))) (ap answer_list t.reports) (looking b k parts symbols C).0)
 
-  peeked : (n : ℕ) (l : TwoLeaves) → 4 ≤ n → Peeks b k parts symbols c ns cs ps l → Called b k parts symbols (call_of n) c ns cs ps (answer_list (answer_report (peek_of l))) c ns cs ps
+  peeked : (n : ℕ) (l : Result (Option (List Ahead)) Refusal) → 4 ≤ n → Peeks b k parts symbols c ns cs ps l → Called b k parts symbols (call_of n) c ns cs ps (answer_list (answer_report (peek_of l))) c ns cs ps
   peeked zero l h p = absurd (omega arith)
   peeked (suc zero) l h p = absurd (omega arith)
   peeked (suc (suc zero)) l h p = absurd (omega arith)
@@ -167,12 +172,12 @@ module _ (b : List ℕ) (k : ℕ) (parts symbols : List ℕ) (c : At) (ns cs ps 
               places = simp (t, u) m.places;
             }
 
-        pub cursor_replied : (a : Answer) (c' : At) (ns' cs' ps' : List ℕ) → Called b k parts symbols (call_of n) c ns cs ps (answer_list (answer_report (answer_of a))) c' ns' cs' ps'
+        pub cursor_replied : (a : Result Reply Refusal) (c' : At) (ns' cs' ps' : List ℕ) → Called b k parts symbols (call_of n) c ns cs ps (answer_list (answer_report (answer_of a))) c' ns' cs' ps'
             → AnswerStored a c' next words r next' words' → CursorReplied b k parts symbols (call_of n) c ns cs ps next words r next' words' ns' cs' ps'
         cursor_replied a c' ns' cs' ps' m p = replies (answer_list (answer_report (answer_of a))) c' ns' cs' ps' m p.replied
 
-        pub cursor_peeked : (l : TwoLeaves) → 4 ≤ n → Peeks b k parts symbols c ns cs ps l
+        pub cursor_peeked : (l : Result (Option (List Ahead)) Refusal) → 4 ≤ n → Peeks b k parts symbols c ns cs ps l
             → LeavesStored l c next words r next' words' → CursorReplied b k parts symbols (call_of n) c ns cs ps next words r next' words' ns cs ps
         cursor_peeked l i m p = replies (answer_list (answer_report (peek_of l))) c ns cs ps (peeked n l i m) p.replied
 
-pub ruleset cursor_cases = (answer_refused, answer_none, answer_done, answer_tree, leaves_otherwise, leaves_both, leaves_found, call_bump, call_end, call_bump_or_end, call_token_tree, cursor_few, cursor_few_words, cursor_replied, cursor_peeked)
+pub ruleset cursor_cases = (reply_is, ahead_is, answer_refused, answer_none, answer_done, answer_tree, leaves_refused, leaves_none, leaves_both, leaves_found, call_bump, call_end, call_bump_or_end, call_token_tree, cursor_few, cursor_few_words, cursor_replied, cursor_peeked)

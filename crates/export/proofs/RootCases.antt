@@ -2,14 +2,15 @@
 use Prim.Native.Nat.{ℕ}
 use mathlib.Core.Path.{◌≡◌, ap, ◌∙◌, subst}
 use mathlib.Core.List.{List}
+use Rattle.std.specs.Prelude.{Result, ⊤}
 use Rattle.format.specs.Width.{span_size}
-use Rattle.tree.specs.declared.refusal.Verdict.{Verdict}
 use Rattle.tree.specs.declared.types.Span.{Span}
 use Rattle.root.specs.Rewrite.{KindSet, SpansSet}
 use Rattle.export.specs.Replies.{verdict_code}
 use Rattle.export.specs.Roots.{span_in, KindReplied, SpansReplied}
+use Rattle.tree.specs.declared.refusal.Refusal.{Refusal}
 
-module _ (b : List ℕ) (k : ℕ) (parts symbols : List ℕ) (v : Verdict) (r : ℕ) (q : r ≡ verdict_code v) where
+module _ (b : List ℕ) (k : ℕ) (parts symbols : List ℕ) (v : Result ⊤ Refusal) (r : ℕ) (q : r ≡ verdict_code v) where
   pub kind_replied : (d : ℕ) (b' : List ℕ) → KindSet b k parts symbols d v b' → KindReplied b k parts symbols d r b'
   kind_replied d b' h = record { reply = q ∙ ap verdict_code h.answer; contents = h.contents }
 

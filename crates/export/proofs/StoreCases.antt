@@ -23,28 +23,6 @@ use Rattle.tree.specs.declared.types.Span.{Span}
 use Rattle.tree.proofs.WordsAgain.{tree_long}
 use Rattle.pack.proofs.Store.{store_1, put_put, put_then, put_none}
 
--- a tree's words, one more at a time
-pub words_begin : (w f : List ℕ) (at : ℕ) → w ≡ put w at (take 0 f)
-words_begin w f at = sym (put_none w at)
-
-module _ (w f : List ℕ) (at : ℕ) (l : length f ≡ tree_size) (g : at + tree_size ≤ length w) where
-  pub words_length : (v : List ℕ) (i : ℕ) → v ≡ put w at (take i f) → i ≤ tree_size → length v ≡ length w
-  words_length v i e h =
-      let k : length (take i f) ≡ i = simp length-take (omega arith) in
-      ap length e ∙ put_length w at (take i f) (omega arith)
-
-  pub words_more : (v : List ℕ) (i : ℕ) → v ≡ put w at (take i f) → i < tree_size → set v (at + i) (get_or f i 0) ≡ put w at (take (i + 1) f)
-  words_more v i e h =
-      let k : length (take i f) ≡ i = simp length-take (omega arith) in
-      let m : length v ≡ length w = words_length v i e (omega arith) in
-      let s : set v (at + i) (get_or f i 0) ≡ put v (at + i) (get_or f i 0 ∷ []) = store_1 v (at + i) (get_or f i 0) (omega arith) in
-      let p : put (put w at (take i f)) (at + i) (get_or f i 0 ∷ []) ≡ put w at (take i f ++ get_or f i 0 ∷ []) = put_put w at i (take i f) (get_or f i 0 ∷ []) k (omega arith) in
-      let t : take (i + 1) f ≡ take i f ++ get_or f i 0 ∷ [] = rw add-one (take-suc f i 0 (omega arith)) in
-      s ∙ ap (λ (x : List ℕ). put x (at + i) (get_or f i 0 ∷ [])) e ∙ p ∙ ap (put w at) (sym t)
-
-  pub words_all : (v : List ℕ) (i : ℕ) → v ≡ put w at (take i f) → tree_size ≤ i → v ≡ put w at f
-  words_all v i e h = e ∙ ap (put w at) (take_all i f (omega arith))
-
 -- the children bytes behind the words
 pub words_then : (w v f : List ℕ) (k : ℕ) → length f ≡ tree_size → tree_size + 1 ≤ length w → v ≡ put w 0 f → set v tree_size k ≡ put w 0 (f ++ k ∷ [])
 words_then w v f k l h e =
@@ -59,10 +37,10 @@ store_3 b at a₀ a₁ a₂ h = rw (add-one, add_two) (sets-eq (a₀ ∷ a₁ �
     add_two n = omega arith
 
 -- a report
-pub loose_stored : (w : List ℕ) (at : ℕ) (x : Loose) (o c : Bool) (m n s : ℕ) → at + loose_size ≤ length w → o ≡ x.opening → c ≡ x.closing → m ≡ bit o → n ≡ bit c → s ≡ x.spans
-    → set (set (set w at m) (at + 1) n) (at + 2) s ≡ put w at (loose_words x)
-loose_stored w at x o c m n s h d e f g i =
-    store_3 w at m n s h ∙ (λ j. put w at (f j ∷ g j ∷ i j ∷ [])) ∙ (λ j. put w at (bit (d j) ∷ bit (e j) ∷ x.spans ∷ []))
+pub loose_stored : (w : List ℕ) (at : ℕ) (x : Loose) (o c : Bool) (m n s : ℕ) → o ≡ x.opening → c ≡ x.closing → m ≡ bit o → n ≡ bit c → s ≡ x.spans
+    → put w at (m ∷ n ∷ s ∷ []) ≡ put w at (loose_words x)
+loose_stored w at x o c m n s d e f g i =
+    (λ j. put w at (f j ∷ g j ∷ i j ∷ [])) ∙ (λ j. put w at (bit (d j) ∷ bit (e j) ∷ x.spans ∷ []))
 
 -- behind a tree's words
 pub reported_stored : (w v v' f : List ℕ) (at : ℕ) (x : Loose) → v ≡ put w at f → v' ≡ put v (at + tree_size) (loose_words x) → length f ≡ tree_size → at + reported_size ≤ length w
@@ -97,11 +75,6 @@ two_stored w v v' near far e f h =
 pub state_stored : (b : List ℕ) (a₀ a₁ a₂ n : ℕ) → 3 ≤ length b → (n ≡ a₁) × (n < 4294967296) → set (set (set b 0 a₀) 1 n) 2 a₂ ≡ put b 0 (a₀ ∷ a₁ ∷ a₂ ∷ [])
 state_stored b a₀ a₁ a₂ n h e = store_3 b 0 a₀ n a₂ h ∙ ap (λ (x : ℕ). put b 0 (a₀ ∷ x ∷ a₂ ∷ [])) e.0
 
-pub span_stored : (b : List ℕ) (s : Span) → span_size ≤ length b
-    → set (set (set (set (set b 0 s.file) 1 s.ast_id) 2 s.context) part_size s.start) (part_size + 1) s.len ≡ put b 0 (span_list s)
-unfolding put
-span_stored b s h = sets-eq (span_list s) b 0 h
-
 -- its report behind it
 pub last_stored : (w v : List ℕ) (s : ReportedSpan) (n : ℕ) → last_size ≤ length w → v ≡ put w 0 (span_list s.span) → n ≡ bit s.loose
     → set v span_size n ≡ put w 0 (span_list s.span ++ bit s.loose ∷ [])
@@ -111,6 +84,6 @@ last_stored w v s n h e f =
     ∙ (λ i. put (e i) span_size (f i ∷ []))
     ∙ put_put w 0 span_size (span_list s.span) (bit s.loose ∷ []) refl (omega arith)
 
-pub ruleset store_cases = (words_begin, words_length, words_more, words_all, words_then, state_stored, span_stored)
+pub ruleset store_cases = (words_then, state_stored)
 
 pub ruleset report_cases = (loose_stored, reported_stored, tree_stored, ahead_stored, two_stored)

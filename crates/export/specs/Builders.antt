@@ -1,5 +1,5 @@
 -- The builder's steps: the reply in one number, and what is lent then.
-use Rattle.std.specs.Prelude.{ℕ, Bool, true, false, ◌≡◌, List, [], ◌∷◌}
+use Rattle.std.specs.Prelude.{ℕ, Bool, true, false, ◌≡◌, List, [], ◌∷◌, Result, Ok, Err}
 use Rattle.format.specs.Verdict.{Verdict, contents}
 use Rattle.format.specs.Builder.{Step, builder_step, new_verdict, new, point_verdict, restore_point, build, build_skip_top_subtree}
 use Rattle.format.specs.Builder as format
@@ -11,8 +11,8 @@ use Rattle.builder.specs.Restoring.{point_answer}
 use Rattle.builder.specs.Taken.{none_open, after}
 use Rattle.builder.specs.declared.state.Builder.{Builder}
 use Rattle.builder.specs.declared.state.Stepped.{Stepped}
-use Rattle.builder.specs.declared.restore.PointTaken.{PointTaken}
-use Rattle.builder.specs.declared.restore.PointTaken.TheVariants as taken
+use Rattle.builder.specs.declared.state.Point.{Point}
+use Rattle.tree.specs.declared.refusal.Refusal.{Refusal}
 use Rattle.export.specs.Replies.{refused_code, verdict_code, report_code}
 
 abbrev pub lent : ℕ → ℕ → List ℕ → Builder
@@ -44,13 +44,13 @@ module _ (s : Step) (b : Builder) (l : List ℕ) where
 
 -- ---- points
 
-abbrev pub point_code : PointTaken → ℕ
-point_code (taken.Point p) = 0
-point_code (taken.Refused r) = refused_code r
+abbrev pub point_code : Result Point Refusal → ℕ
+point_code (Ok p) = 0
+point_code (Err r) = refused_code r
 
-abbrev pub point_left : List ℕ → PointTaken → List ℕ
-point_left w (taken.Point p) = p.trees ∷ p.opened ∷ []
-point_left w (taken.Refused r) = w
+abbrev pub point_left : List ℕ → Result Point Refusal → List ℕ
+point_left w (Ok p) = p.trees ∷ p.opened ∷ []
+point_left w (Err r) = w
 
 pub record PointReplied (b : Builder) (l point : List ℕ) (r : ℕ) (point' : List ℕ) : Type 0 where
   pub reply : r ≡ point_code (point_answer (point_verdict l (seen b)) (restore_point l (seen b)))

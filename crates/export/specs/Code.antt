@@ -1,5 +1,5 @@
 -- Replies in one number, and what reading leaves in lent words.
-use Rattle.std.specs.Prelude.{ℕ, ◌+◌, ◌≡◌, Bool, List, [], ◌∷◌, ◌++◌, ltb, length, if◌then◌else◌}
+use Rattle.std.specs.Prelude.{ℕ, ◌+◌, ◌≡◌, Bool, List, [], ◌∷◌, ◌++◌, ltb, length, if◌then◌else◌, Option, Some, None, Result}
 use Rattle.format.specs.Width.{tree_size}
 use Rattle.format.specs.Word.{put}
 use Rattle.format.specs.Span.{Span, span_at, symbol_at}
@@ -10,29 +10,19 @@ use Rattle.format.specs.Tree.{Raw, subtree}
 use Rattle.format.specs.WordList.{word_of, raw_from, word_fields}
 use Rattle.format.specs.Write.{tree_bytes}
 use Rattle.pack.specs.Answer.{packed_answer, decoded_answer, symbol_answer, span_number, symbol_number}
-use Rattle.pack.specs.declared.Packed.{Packed}
-use Rattle.pack.specs.declared.Packed.TheVariants.{Written, Refused}
 use Rattle.pack.specs.declared.span.DecodedSpan.{DecodedSpan}
-use Rattle.pack.specs.declared.span.SpanDecoded.{SpanDecoded}
-use Rattle.pack.specs.declared.span.SpanDecoded.TheVariants as spans
 use Rattle.pack.specs.declared.symbol.SymbolAt.{SymbolAt}
-use Rattle.pack.specs.declared.symbol.SymbolRead.{SymbolRead}
-use Rattle.pack.specs.declared.symbol.SymbolRead.TheVariants as symbols
 use Rattle.format.specs.Reader.{Reply, got, bad}
 use Rattle.format.specs.Loose.{Loose, bit, loose_at, beside}
 use Rattle.tree.specs.Types.{tree_words_of}
 use Rattle.tree.specs.declared.types.TokenTree.{TokenTree}
 use Rattle.decode.specs.Decode.{decoded}
 use Rattle.encode.specs.Encode.{pack_tree}
+use Rattle.export.specs.Replies.{refusal_code, reply_of}
 use Rattle.export.specs.Steps.{loose_size, loose_words}
 
--- a refusal's number, out of the way of every length and place
-abbrev pub refusal_code : ℕ → ℕ
-refusal_code k = 9223372036854775808 + k
-
-abbrev pub code_of : Packed → ℕ
-code_of (Written n) = n
-code_of (Refused k) = refusal_code k
+abbrev pub code_of : Result ℕ ℕ → ℕ
+code_of p = reply_of (λ n. n) refusal_code p
 
 pub record SpanStored (b : List ℕ) (at : ℕ) (heavy : Bool) (extra : ℕ) (s : Span) (r : ℕ) (b' : List ℕ) : Type 0 where
   pub reply : r ≡ code_of (packed_answer (span_report b at heavy extra s))
@@ -49,21 +39,21 @@ span_words y = y.span.index ∷ y.span.start ∷ y.span.len ∷ y.extra ∷ bit 
 abbrev pub symbol_words : SymbolAt → List ℕ
 symbol_words y = y.index ∷ y.tag ∷ []
 
-abbrev pub span_code : SpanDecoded → ℕ
-span_code (spans.Read y) = y.next
-span_code spans.Short = refusal_code (span_number spans.Short)
+abbrev pub span_code : Option DecodedSpan → ℕ
+span_code (Some y) = y.next
+span_code None = refusal_code (span_number None)
 
-abbrev pub span_left : List ℕ → SpanDecoded → List ℕ
-span_left w (spans.Read y) = put w 0 (span_words y)
-span_left w spans.Short = w
+abbrev pub span_left : List ℕ → Option DecodedSpan → List ℕ
+span_left w (Some y) = put w 0 (span_words y)
+span_left w None = w
 
-abbrev pub symbol_code : SymbolRead → ℕ
-symbol_code (symbols.Read y) = y.next
-symbol_code symbols.Short = refusal_code (symbol_number symbols.Short)
+abbrev pub symbol_code : Option SymbolAt → ℕ
+symbol_code (Some y) = y.next
+symbol_code None = refusal_code (symbol_number None)
 
-abbrev pub symbol_left : List ℕ → SymbolRead → List ℕ
-symbol_left w (symbols.Read y) = put w 0 (symbol_words y)
-symbol_left w symbols.Short = w
+abbrev pub symbol_left : List ℕ → Option SymbolAt → List ℕ
+symbol_left w (Some y) = put w 0 (symbol_words y)
+symbol_left w None = w
 
 -- too few words are 6
 pub record SpanFound (b : List ℕ) (at : ℕ) (w : List ℕ) (r : ℕ) (w' : List ℕ) : Type 0 where

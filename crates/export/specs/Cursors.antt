@@ -1,19 +1,19 @@
 -- Cursor calls, by value and over lent arrays alike: the reply in one number, and what is lent then.
-use Rattle.std.specs.Prelude.{ℕ, zero, suc, ◌*◌, ◌≡◌, List, [], ◌∷◌}
+use Rattle.std.specs.Prelude.{ℕ, zero, suc, ◌*◌, ◌≡◌, List, [], ◌∷◌, Option, Result}
 use Rattle.format.specs.Reader as format
 use Rattle.format.specs.Cursor as calls
 use Rattle.format.specs.Cursor.{CursorCall, bump, end, bump_or_end, token_tree, peek_two_leaves, cursor_step}
 use Rattle.format.specs.Buffer.{word_shape, own_reader}
 use Rattle.format.specs.Loose.{loose_at, reported_shape, reported}
+use Rattle.tree.specs.declared.refusal.Refusal.{Refusal}
 use Rattle.walk.specs.Source.{shown_report, answer_report}
 use Rattle.cursor.specs.Open.{cursor_of}
 use Rattle.cursor.specs.Plan.{answer_of}
 use Rattle.cursor.specs.Moves.{state_of, written}
 use Rattle.cursor.specs.Look.{ahead_of, both_of, peek_of}
 use Rattle.cursor.specs.declared.state.At.{At}
-use Rattle.cursor.specs.declared.plan.Answer.{Answer}
+use Rattle.cursor.specs.declared.plan.Reply.{Reply}
 use Rattle.cursor.specs.declared.look.Ahead.{Ahead}
-use Rattle.cursor.specs.declared.look.TwoLeaves.{TwoLeaves}
 use Rattle.export.specs.Steps.{reported_size, report_list, answer_list, Replied, if_short, with_room}
 
 -- the calls by number; 4 and above look at two leaves
@@ -31,13 +31,13 @@ at_list c = c.place ∷ c.number ∷ c.depth ∷ []
 abbrev pub ahead_list : Ahead → List ℕ
 ahead_list a = report_list (shown_report (ahead_of a))
 
-pub record AnswerStored (a : Answer) (c : At) (next words : List ℕ) (r : ℕ) (next' words' : List ℕ) : Type 0 where
+pub record AnswerStored (a : Result Reply Refusal) (c : At) (next words : List ℕ) (r : ℕ) (next' words' : List ℕ) : Type 0 where
   pub replied : Replied (answer_list (answer_report (answer_of a))) (at_list c) next words r next' words'
 
 pub record BothStored (l : List Ahead) (c : At) (next words : List ℕ) (r : ℕ) (next' words' : List ℕ) : Type 0 where
   pub replied : Replied (answer_list (answer_report (both_of l))) (at_list c) next words r next' words'
 
-pub record LeavesStored (l : TwoLeaves) (c : At) (next words : List ℕ) (r : ℕ) (next' words' : List ℕ) : Type 0 where
+pub record LeavesStored (l : Result (Option (List Ahead)) Refusal) (c : At) (next words : List ℕ) (r : ℕ) (next' words' : List ℕ) : Type 0 where
   pub replied : Replied (answer_list (answer_report (peek_of l))) (at_list c) next words r next' words'
 
 module _ (b : List ℕ) (k : ℕ) (parts symbols : List ℕ) (call : CursorCall) (c : At) (ns cs ps : List ℕ) where

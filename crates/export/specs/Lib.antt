@@ -1,5 +1,5 @@
-pub mod Code
 pub mod Replies
+pub mod Code
 pub mod Lists
 pub mod Steps
 pub mod Roots

@@ -1,25 +1,29 @@
 -- Replies of whole lists and buffers in one number: a refusal's number and its tree stand below bit 63, 32 bits each.
-use Rattle.std.specs.Prelude.{ℕ, ◌+◌, ◌*◌, ◌%◌}
+use Rattle.std.specs.Prelude.{ℕ, ◌+◌, ◌*◌, ◌%◌, Result, Ok, Err, ⊤}
 use Rattle.tree.specs.declared.refusal.Refusal.{Refusal}
-use Rattle.tree.specs.declared.refusal.Verdict.{Verdict}
-use Rattle.tree.specs.declared.refusal.Verdict.TheVariants as verdicts
-use Rattle.tree.specs.declared.refusal.Report.{Report}
-use Rattle.tree.specs.declared.refusal.Report.TheVariants as reports
-use Rattle.tables.specs.declared.make.TablesReport.{TablesReport}
-use Rattle.tables.specs.declared.make.TablesReport.TheVariants as tables
+use Rattle.tables.specs.declared.make.Made.{Made}
 
 abbrev pub refused_code : Refusal → ℕ
 refused_code r = 9223372036854775808 + 4294967296 * (r.number % 2147483648) + r.tree
 
-abbrev pub verdict_code : Verdict → ℕ
-verdict_code verdicts.Passed = 0
-verdict_code (verdicts.Refused r) = refused_code r
+-- a refusal's number alone, out of the way of every length and place
+abbrev pub refusal_code : ℕ → ℕ
+refusal_code k = 9223372036854775808 + k
 
-abbrev pub report_code : Report → ℕ
-report_code (reports.Wrote n) = n
-report_code (reports.Refused r) = refused_code r
+-- an answer, by what stands for its value and what for its refusal
+abbrev pub reply_of : {T E : Type 0} → (T → ℕ) → (E → ℕ) → Result T E → ℕ
+reply_of value refusal (Ok x) = value x
+reply_of value refusal (Err e) = refusal e
+
+abbrev pub verdict_code : Result ⊤ Refusal → ℕ
+verdict_code v = reply_of (λ _. 0) refused_code v
+
+abbrev pub report_code : Result ℕ Refusal → ℕ
+report_code v = reply_of (λ n. n) refused_code v
 
 -- two numbers, the second below bit 32
-abbrev pub tables_code : TablesReport → ℕ
-tables_code (tables.Made parts symbols) = 4294967296 * (parts % 2147483648) + symbols % 4294967296
-tables_code (tables.Refused r) = refused_code r
+abbrev pub made_code : Made → ℕ
+made_code m = 4294967296 * (m.parts % 2147483648) + m.symbols % 4294967296
+
+abbrev pub tables_code : Result Made Refusal → ℕ
+tables_code v = reply_of made_code refused_code v

@@ -1,5 +1,5 @@
 -- Answers of walk steps and cursor calls in one number, and what they leave in lent words.
-use Rattle.std.specs.Prelude.{ℕ, ◌+◌, Bool, true, false, ◌≡◌, List, [], ◌∷◌, ◌++◌, ltb, length, if◌then◌else◌}
+use Rattle.std.specs.Prelude.{ℕ, ◌+◌, Bool, true, false, ◌≡◌, List, [], ◌∷◌, ◌++◌, ltb, length, if◌then◌else◌, Option, Result}
 use Rattle.format.specs.Width.{span_size, tree_size}
 use Rattle.format.specs.Word.{put}
 use Rattle.format.specs.Reader.{Answer, done, none, one, two, refused, mapped}
@@ -7,12 +7,13 @@ use Rattle.format.specs.Walk as steps
 use Rattle.format.specs.LastSpan.{last_reported}
 use Rattle.format.specs.Loose.{Loose, bit, loose_at, reported_shape, reported}
 use Rattle.format.specs.Buffer.{word_shape, own_reader}
+use Rattle.tree.specs.declared.refusal.Refusal.{Refusal}
 use Rattle.walk.specs.Source.{answer_report}
 use Rattle.walk.specs.Walk.{walk_of, answer_of}
 use Rattle.walk.specs.Last.{last_of}
 use Rattle.walk.specs.declared.walk.Walk.{Walk}
 use Rattle.walk.specs.declared.walk.Step.{Step}
-use Rattle.walk.specs.declared.last_span.LastSpan.{LastSpan}
+use Rattle.walk.specs.declared.last_span.ReportedSpan.{ReportedSpan}
 use Rattle.export.specs.Replies.{refused_code}
 
 -- ---- reports as words
@@ -107,7 +108,7 @@ module _ (b : List ℕ) (k : ℕ) (parts symbols : List ℕ) (w : Walk) where
 abbrev pub with_span : List ℕ → Answer (List ℕ) → Answer (List ℕ)
 with_span words a = if ltb (length words) last_size then refused 6 0 else a
 
-pub record LastStored (a : LastSpan) (words : List ℕ) (r : ℕ) (words' : List ℕ) : Type 0 where
+pub record LastStored (a : Result (Option ReportedSpan) Refusal) (words : List ℕ) (r : ℕ) (words' : List ℕ) : Type 0 where
   pub reply : r ≡ answer_code (last_list (last_of a))
   pub handed : words' ≡ words_after (last_list (last_of a)) words
 

@@ -5,7 +5,7 @@ ghost use Rattle.format.specs.Buffer.{raw_shape, size_reader, buffer_check};
 ghost use Rattle.tree.specs.Refusal.{verdict_answer};
 ghost use Rattle.export.specs.Replies.{verdict_code};
 
-use crate::replies::verdict_code;
+use crate::replies::reply;
 use checker::check::{check, check_buffer};
 
 // The check by the numbers of parts and symbols.
@@ -14,8 +14,7 @@ pub extern "C" fn tt_check(b: &[u8], trees: u32, parts: usize, symbols: usize) -
     ensures { result ≡ verdict_code (verdict_answer
         (checked raw_shape (size_reader b.now trees parts symbols))) }
 {
-    let v = check(b, trees, parts, symbols);
-    verdict_code(v)
+    reply(check(b, trees, parts, symbols))
 }
 
 // The check with the tables themselves.
@@ -24,6 +23,5 @@ pub extern "C" fn tt_check_buffer(b: &[u8], trees: u32, parts: &[u32], symbols: 
     ensures { result ≡ verdict_code (verdict_answer
         (buffer_check b.now trees parts.now symbols.now)) }
 {
-    let v = check_buffer(b, trees, parts, symbols);
-    verdict_code(v)
+    reply(check_buffer(b, trees, parts, symbols))
 }

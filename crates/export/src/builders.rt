@@ -8,9 +8,8 @@ ghost use Rattle.export.specs.Roots.{span_in};
 ghost use Rattle.export.specs.Builders.{lent, StepStored, StepReplied, NewReplied};
 ghost use Rattle.export.specs.Builders.{PointReplied, BuildReplied};
 
-use crate::replies::{refused_code, report_code, verdict_code};
+use crate::replies::{Code, reply};
 use crate::roots::{TWO_SPANS, span_in};
-use builder::restore::PointTaken;
 use builder::state::{Builder, Point, Stepped};
 use tree::raw::place as wide;
 use width::{SPAN_WORDS, TREE_WORDS};
@@ -18,14 +17,22 @@ use width::{SPAN_WORDS, TREE_WORDS};
 fn store_step(stepped: Stepped, next: &mut [usize; 2], opened: &mut [u32; 256]) -> u64
     ensures { StepStored stepped result next.new opened.new }
 {
-    let verdict = stepped.verdict;
     let builder = stepped.builder;
-    let numbers = builder.opened;
-    *opened = numbers;
-    let count = wide(builder.count);
-    let state = [count, builder.depth];
-    *next = state;
-    verdict_code(verdict)
+    let opens = builder.opened;
+    *opened = opens;
+    *next = [wide(builder.count), builder.depth];
+    reply(stepped.verdict)
+}
+
+// The builder of a count, a depth and open trees.
+fn lent(count: u32, depth: usize, opened: &[u32; 256]) -> Builder
+    ensures { result ≡ lent count depth opened.now }
+{
+    Builder {
+        count,
+        depth,
+        opened: *opened,
+    }
 }
 
 // The words of the root's opening span, then those of its closing one.
@@ -60,12 +67,7 @@ pub extern "C" fn tt_builder_push(
         (lent count depth opened.old) list.old
         result next.new opened.new list.new }
 {
-    let numbers = *opened;
-    let builder = Builder {
-        count: count,
-        depth: depth,
-        opened: numbers,
-    };
+    let builder = lent(count, depth, opened);
     let stepped = builder.push_words(list, leaf);
     store_step(stepped, next, opened)
 }
@@ -84,12 +86,7 @@ pub extern "C" fn tt_builder_open(
         (lent count depth opened.old) list.old
         result next.new opened.new list.new }
 {
-    let numbers = *opened;
-    let builder = Builder {
-        count: count,
-        depth: depth,
-        opened: numbers,
-    };
+    let builder = lent(count, depth, opened);
     let opening = span_in(span, 0);
     let stepped = builder.open(list, kind, opening);
     store_step(stepped, next, opened)
@@ -108,12 +105,7 @@ pub extern "C" fn tt_builder_close(
         (lent count depth opened.old) list.old
         result next.new opened.new list.new }
 {
-    let numbers = *opened;
-    let builder = Builder {
-        count: count,
-        depth: depth,
-        opened: numbers,
-    };
+    let builder = lent(count, depth, opened);
     let closing = span_in(span, 0);
     let stepped = builder.close(list, closing);
     store_step(stepped, next, opened)
@@ -131,15 +123,10 @@ pub extern "C" fn tt_builder_point(
     ensures { PointReplied (lent count depth opened.now) list.now point.old
         result point.new }
 {
-    let numbers = *opened;
-    let builder = Builder {
-        count: count,
-        depth: depth,
-        opened: numbers,
-    };
+    let builder = lent(count, depth, opened);
     match builder.restore_point(list) {
-        PointTaken::Refused(refusal) => refused_code(refusal),
-        PointTaken::Point(taken) => {
+        Err(refusal) => refusal.code(),
+        Ok(taken) => {
             let words = [taken.trees, taken.opened];
             *point = words;
             0
@@ -161,14 +148,9 @@ pub extern "C" fn tt_builder_restore(
         (lent count depth opened.old) list.now
         result next.new opened.new list.now }
 {
-    let numbers = *opened;
-    let builder = Builder {
-        count: count,
-        depth: depth,
-        opened: numbers,
-    };
+    let builder = lent(count, depth, opened);
     let point = Point {
-        trees: trees,
+        trees,
         opened: opens,
     };
     let stepped = builder.restore(list, point);
@@ -192,16 +174,10 @@ pub extern "C" fn tt_builder_build(
         parts.now symbols.now work.old out.old
         result work.new out.new }
 {
-    let numbers = *opened;
-    let builder = Builder {
-        count: count,
-        depth: depth,
-        opened: numbers,
-    };
+    let builder = lent(count, depth, opened);
     if skip {
-        let report = builder.build_skip_top_subtree(list, parts, symbols, work, out);
-        return report_code(report);
+        reply(builder.build_skip_top_subtree(list, parts, symbols, work, out))
+    } else {
+        reply(builder.build(list, parts, symbols, work, out))
     }
-    let report = builder.build(list, parts, symbols, work, out);
-    report_code(report)
 }

@@ -27,19 +27,14 @@ fn value_call(
         (answer_list (answer_report (answer_of result.answer))) (at_of result.cursor)
         result.cursor.numbers result.cursor.counts result.cursor.places }
 {
-    if call == 0 {
-        return cursor.bump(b, trees, parts, symbols);
-    }
-    if call == 1 {
-        return cursor.end(b, trees, parts, symbols);
-    }
-    if call == 2 {
-        return cursor.bump_or_end(b, trees, parts, symbols);
-    }
-    let answer = cursor.token_tree(b, trees, parts, symbols);
-    Next {
-        answer: answer,
-        cursor: cursor,
+    match call {
+        0 => cursor.bump(b, trees, parts, symbols),
+        1 => cursor.end(b, trees, parts, symbols),
+        2 => cursor.bump_or_end(b, trees, parts, symbols),
+        _ => {
+            let answer = cursor.token_tree(b, trees, parts, symbols);
+            Next { answer, cursor }
+        }
     }
 }
 
@@ -65,34 +60,27 @@ pub extern "C" fn tt_cursor_by_value(
         numbers.old counts.old places.old next.old words.old result
         next.new words.new numbers.new counts.new places.new }
 {
-    if next.len() < 3 {
+    if next.len() < 3 || words.len() < TWO_TREES {
         return TOO_SHORT;
     }
-    if words.len() < TWO_TREES {
-        return TOO_SHORT;
-    }
-    let opened = *numbers;
-    let held = *counts;
-    let begun = *places;
     let cursor = Cursor {
-        place: place,
-        number: number,
-        depth: depth,
-        numbers: opened,
-        counts: held,
-        places: begun,
+        place,
+        number,
+        depth,
+        numbers: *numbers,
+        counts: *counts,
+        places: *places,
     };
     let at = At {
-        place: place,
-        number: number,
-        depth: depth,
+        place,
+        number,
+        depth,
     };
     if 4 <= call {
         let two = cursor.peek_two_leaves(b, trees, parts, symbols);
         return store_leaves(two, at, next, words);
     }
     let moved = value_call(b, trees, parts, symbols, call, cursor);
-    let answer = moved.answer;
     let then = moved.cursor;
     let opened = then.numbers;
     let held = then.counts;
@@ -105,5 +93,5 @@ pub extern "C" fn tt_cursor_by_value(
         number: then.number,
         depth: then.depth,
     };
-    store_answer(answer, after, next, words)
+    store_answer(moved.answer, after, next, words)
 }

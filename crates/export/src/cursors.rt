@@ -29,19 +29,14 @@ fn lent_call(
         (answer_list (answer_report (answer_of result.answer))) result.at
         numbers.new counts.new places.new }
 {
-    if call == 0 {
-        return bump(b, trees, parts, symbols, at, numbers, counts, places);
-    }
-    if call == 1 {
-        return end(b, trees, parts, symbols, at, numbers, counts, places);
-    }
-    if call == 2 {
-        return bump_or_end(b, trees, parts, symbols, at, numbers, counts, places);
-    }
-    let answer = token_tree(b, trees, parts, symbols, at, numbers, counts, places);
-    Moved {
-        answer: answer,
-        at: at,
+    match call {
+        0 => bump(b, trees, parts, symbols, at, numbers, counts, places),
+        1 => end(b, trees, parts, symbols, at, numbers, counts, places),
+        2 => bump_or_end(b, trees, parts, symbols, at, numbers, counts, places),
+        _ => {
+            let answer = token_tree(b, trees, parts, symbols, at, numbers, counts, places);
+            Moved { answer, at }
+        }
     }
 }
 
@@ -68,23 +63,18 @@ pub extern "C" fn tt_cursor(
         numbers.old counts.old places.old next.old words.old result
         next.new words.new numbers.new counts.new places.new }
 {
-    if next.len() < 3 {
-        return TOO_SHORT;
-    }
-    if words.len() < TWO_TREES {
+    if next.len() < 3 || words.len() < TWO_TREES {
         return TOO_SHORT;
     }
     let at = At {
-        place: place,
-        number: number,
-        depth: depth,
+        place,
+        number,
+        depth,
     };
     if 4 <= call {
         let two = peek_two_leaves(b, trees, parts, symbols, at, numbers, counts, places);
         return store_leaves(two, at, next, words);
     }
     let moved = lent_call(b, trees, parts, symbols, call, at, numbers, counts, places);
-    let answer = moved.answer;
-    let then = moved.at;
-    store_answer(answer, then, next, words)
+    store_answer(moved.answer, moved.at, next, words)
 }

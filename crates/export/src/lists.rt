@@ -1,21 +1,17 @@
 // Whole lists.
-ghost use Rattle.std.specs.Prelude.{◌≡◌};
-ghost use Rattle.export.specs.Replies.{tables_code};
+ghost use Rattle.export.specs.Replies.{made_code};
 ghost use Rattle.export.specs.Lists.{TablesStored, ListStored};
 
-use crate::replies::{refused_code, report_code};
-use tables::make::{TablesReport, compute_span_frequencies_and_symbols};
+use crate::replies::{Code, reply};
+use tables::make::{Made, compute_span_frequencies_and_symbols};
 use writer::write::encode_list;
 
 // The numbers of parts and of symbols, 32 bits each.
-fn tables_code(v: TablesReport) -> u64
-    ensures { result ≡ tables_code v }
-{
-    match v {
-        TablesReport::Made { parts, symbols } => {
-            4294967296 * ((parts % 2147483648) as u64) + ((symbols % 4294967296) as u64)
-        }
-        TablesReport::Refused(r) => refused_code(r),
+impl Code for Made {
+    ghost code = { made_code };
+
+    fn code(self) -> u64 {
+        4294967296 * ((self.parts % 2147483648) as u64) + ((self.symbols % 4294967296) as u64)
     }
 }
 
@@ -33,7 +29,7 @@ pub extern "C" fn tt_tables(
         parts.new part_counts.new symbols.new symbol_counts.new }
 {
     let v = compute_span_frequencies_and_symbols(l, parts, part_counts, symbols, symbol_counts);
-    tables_code(v)
+    reply(v)
 }
 
 // The bytes of a list over given tables.
@@ -48,6 +44,5 @@ pub extern "C" fn tt_encode_list(
     ensures { ListStored parts.now symbols.now l.now
         work.old out.old result work.new out.new }
 {
-    let v = encode_list(l, parts, symbols, work, out);
-    report_code(v)
+    reply(encode_list(l, parts, symbols, work, out))
 }

@@ -1,24 +1,11 @@
 // Spans and symbols.
-ghost use Rattle.std.specs.Prelude.{◌≡◌, ◌∷◌, [], ◌≤◌, length};
-ghost use Rattle.format.specs.Word.{put};
-ghost use Rattle.format.specs.Span.{span_at, symbol_at};
-ghost use Rattle.export.specs.Code.{code_of, span_words, symbol_words};
 ghost use Rattle.export.specs.Code.{SpanStored, SymbolStored, SpanFound, SymbolFound};
 
-use pack::Packed;
-use pack::span::{DecodedSpan, PackedSpan, SpanDecoded};
-use pack::symbol::{SymbolAt, SymbolRead};
+use crate::replies::{Code, reply};
+use pack::row;
+use pack::span::PackedSpan;
 use tree::loose::bit;
-
-// A reply in one number: the bytes written, or 2^63 and the refusal's number.
-pub(crate) fn code_of(p: Packed) -> u64
-    ensures { result ≡ code_of p }
-{
-    match p {
-        Packed::Written(n) => n as u64,
-        Packed::Refused(k) => 9223372036854775808 + (k as u64),
-    }
-}
+use tree::unchecked::put_words;
 
 #[unsafe(no_mangle)]
 pub extern "C" fn tt_encode_span(
@@ -33,33 +20,15 @@ pub extern "C" fn tt_encode_span(
     ensures { SpanStored out.old at heavy extra (record { index = index; start = start; len = len })
         result out.new }
 {
-    let span = PackedSpan {
-        index: index,
-        start: start,
-        len: len,
-    };
-    let p = pack::span::encode_span_no_map(out, at, span, extra, heavy);
-    code_of(p)
+    let span = PackedSpan { index, start, len };
+    reply(pack::span::encode_span_no_map(out, at, span, extra, heavy))
 }
 
 #[unsafe(no_mangle)]
 pub extern "C" fn tt_encode_symbol(out: &mut [u8], at: usize, tag: u32, index: u32) -> u64
     ensures { SymbolStored out.old at tag index result out.new }
 {
-    let p = pack::symbol::encode_symbol(out, at, tag, index);
-    code_of(p)
-}
-
-fn store_span(words: &mut [u32], y: DecodedSpan)
-    requires { 5 ≤ length words.old }
-    ensures { words.new ≡ put words.old 0 (span_words y) }
-{
-    let span = y.span;
-    words[0] = span.index;
-    words[1] = span.start;
-    words[2] = span.len;
-    words[3] = y.extra;
-    words[4] = bit(y.loose);
+    reply(pack::symbol::encode_symbol(out, at, tag, index))
 }
 
 // Index, start, length, extra bits and whether a form of fewer bytes holds the span go to five words.
@@ -69,21 +38,15 @@ pub extern "C" fn tt_decode_span(b: &[u8], at: usize, words: &mut [u32]) -> u64
     ensures { SpanFound b.now at words.old result words.new }
 {
     if words.len() < 5 {
-        return 9223372036854775814;
+        return row::ROOM.code();
     }
-    let SpanDecoded::Read(y) = pack::span::decode_span(b, at) else {
-        return 9223372036854775815;
+    let Some(y) = pack::span::decode_span(b, at) else {
+        return row::SHORT.code();
     };
-    store_span(words, y);
-    y.next as u64
-}
-
-fn store_symbol(words: &mut [u32], y: SymbolAt)
-    requires { 2 ≤ length words.old }
-    ensures { words.new ≡ put words.old 0 (symbol_words y) }
-{
-    words[0] = y.index;
-    words[1] = y.tag;
+    let span = y.span;
+    let found = [span.index, span.start, span.len, y.extra, bit(y.loose)];
+    put_words(words, 0, &found);
+    y.next.code()
 }
 
 // Index and tag go to two words; the answer is as for a span.
@@ -92,11 +55,12 @@ pub extern "C" fn tt_decode_symbol(b: &[u8], at: usize, words: &mut [u32]) -> u6
     ensures { SymbolFound b.now at words.old result words.new }
 {
     if words.len() < 2 {
-        return 9223372036854775814;
+        return row::ROOM.code();
     }
-    let SymbolRead::Read(y) = pack::symbol::decode_symbol(b, at) else {
-        return 9223372036854775815;
+    let Some(y) = pack::symbol::decode_symbol(b, at) else {
+        return row::SHORT.code();
     };
-    store_symbol(words, y);
-    y.next as u64
+    let found = [y.index, y.tag];
+    put_words(words, 0, &found);
+    y.next.code()
 }

@@ -1,32 +1,59 @@
-// Replies of whole lists and buffers in one number.
-ghost use Rattle.std.specs.Prelude.{◌≡◌};
-ghost use Rattle.export.specs.Replies.{refused_code, verdict_code, report_code};
+// Replies in one number.
+ghost use Rattle.std.specs.Prelude.{◌≡◌, ℕ};
+ghost use Rattle.export.specs.Replies.{refused_code, refusal_code, reply_of};
 
-use tree::refusal::{Refusal, Report, Verdict};
+use pack::row::Row;
+use tree::refusal::Refusal;
 
 // Refusal 6 at tree 0.
 pub const TOO_SHORT: u64 = 9223372062624579584;
 
-pub(crate) fn refused_code(r: Refusal) -> u64
-    ensures { result ≡ refused_code r }
-{
-    9223372036854775808 + 4294967296 * ((r.number % 2147483648) as u64) + (r.tree as u64)
+// The number that stands for a value.
+pub(crate) trait Code {
+    ghost code: { Self → ℕ };
+
+    fn code(self) -> u64
+        ensures { result ≡ code self };
 }
 
-pub(crate) fn verdict_code(v: Verdict) -> u64
-    ensures { result ≡ verdict_code v }
-{
-    match v {
-        Verdict::Passed => 0,
-        Verdict::Refused(r) => refused_code(r),
+impl Code for () {
+    ghost code = { λ _. 0 };
+
+    fn code(self) -> u64 {
+        0
     }
 }
 
-pub(crate) fn report_code(v: Report) -> u64
-    ensures { result ≡ report_code v }
+impl Code for usize {
+    ghost code = { λ n. n };
+
+    fn code(self) -> u64 {
+        self as u64
+    }
+}
+
+// A refusal without a tree.
+impl Code for Row {
+    ghost code = { refusal_code };
+
+    fn code(self) -> u64 {
+        9223372036854775808 + (self as u64)
+    }
+}
+
+impl Code for Refusal {
+    ghost code = { refused_code };
+
+    fn code(self) -> u64 {
+        9223372036854775808 + 4294967296 * ((self.number % 2147483648) as u64) + (self.tree as u64)
+    }
+}
+
+pub(crate) fn reply<T: Code, E: Code>(answer: Result<T, E>) -> u64
+    ensures { result ≡ reply_of T.code E.code answer }
 {
-    match v {
-        Report::Wrote(n) => n as u64,
-        Report::Refused(r) => refused_code(r),
+    match answer {
+        Ok(value) => value.code(),
+        Err(refusal) => refusal.code(),
     }
 }

@@ -3,7 +3,7 @@ ghost use Rattle.std.specs.Prelude.{◌≡◌, ◌+◌, ◌≤◌, length};
 ghost use Rattle.format.specs.Width.{span_size};
 ghost use Rattle.export.specs.Roots.{span_in, KindReplied, SpansReplied};
 
-use crate::replies::verdict_code;
+use crate::replies::reply;
 use root::{set_top_subtree_delimiter_kind, set_top_subtree_delimiter_span};
 use tree::types::Span;
 use width::{PART_WORDS, SPAN_WORDS};
@@ -21,8 +21,7 @@ pub extern "C" fn tt_set_kind(
     ensures { KindReplied b.old trees parts.now symbols.now kind
         result b.new }
 {
-    let verdict = set_top_subtree_delimiter_kind(b, trees, parts, symbols, kind);
-    verdict_code(verdict)
+    reply(set_top_subtree_delimiter_kind(b, trees, parts, symbols, kind))
 }
 
 // The span whose words begin at a place.
@@ -54,5 +53,5 @@ pub extern "C" fn tt_set_spans(
     let opening = span_in(spans, 0);
     let closing = span_in(spans, SPAN_WORDS);
     let verdict = set_top_subtree_delimiter_span(b, trees, parts, symbols, opening, closing);
-    verdict_code(verdict)
+    reply(verdict)
 }

@@ -4,23 +4,19 @@ ghost use Rattle.format.specs.Width.{tree_size};
 ghost use Rattle.format.specs.Word.{put};
 ghost use Rattle.tree.specs.Loose.{loose_of};
 ghost use Rattle.export.specs.Steps.{loose_words};
-ghost use Rattle.export.specs.Code.{refusal_code, found_size, TreeStored, RootStored, TreeFound};
+ghost use Rattle.export.specs.Code.{found_size, TreeStored, RootStored, TreeFound};
 
-use crate::packing::code_of;
-use crate::unchecked::{LOOSE_WORDS, store_loose, store_words};
-use decode::decode::{TreeDecoded, decode};
+use crate::replies::{Code, reply};
+use crate::unchecked::{LOOSE_WORDS, store_loose};
+use decode::decode::decode;
 use encode::encode::{encode, encode_top_subtree};
+use pack::row;
 use pack::span::PackedSpan;
 use tree::loose::Loose;
 use tree::raw::{ChildrenBytes, Descendants, RawSubtree};
-use tree::words::{RawWords, raw_from_words, tree_words};
+use tree::unchecked::put_words;
+use tree::words::{raw_from_words, tree_words};
 use width::TREE_WORDS;
-
-fn refusal_code(k: u32) -> u64
-    ensures { result ≡ refusal_code k }
-{
-    9223372036854775808 + (k as u64)
-}
 
 // The tree of these list words, with the indices of its open and close part and of its symbol.
 #[unsafe(no_mangle)]
@@ -37,11 +33,8 @@ pub extern "C" fn tt_encode_tree(
         children result out.new }
 {
     match raw_from_words(tree, open_index, close_index, symbol_index) {
-        RawWords::Bad(number) => refusal_code(number),
-        RawWords::Got(raw) => {
-            let p = encode(out, at, raw, ChildrenBytes(children));
-            code_of(p)
-        }
+        Err(number) => number.code(),
+        Ok(raw) => reply(encode(out, at, raw, ChildrenBytes(children))),
     }
 }
 
@@ -76,13 +69,12 @@ pub extern "C" fn tt_encode_top_subtree(
         len: close_len,
     };
     let root = RawSubtree {
-        opening: opening,
-        closing: closing,
+        opening,
+        closing,
         len: Descendants(len),
-        kind: kind,
+        kind,
     };
-    let p = encode_top_subtree(out, at, root, ChildrenBytes(children));
-    code_of(p)
+    reply(encode_top_subtree(out, at, root, ChildrenBytes(children)))
 }
 
 // A tree's words, its children bytes and its report.
@@ -94,7 +86,7 @@ fn store_counted(words: &mut [u32], from: [u32; TREE_WORDS], children: u32)
     requires { tree_size + 1 ≤ length words.old }
     ensures { words.new ≡ put words.old 0 (from ++ children ∷ []) }
 {
-    store_words(words, 0, from);
+    put_words(words, 0, &from);
     words[TREE_WORDS] = children;
 }
 
@@ -120,17 +112,17 @@ pub extern "C" fn tt_decode_tree(
         words.old result words.new }
 {
     if words.len() < FOUND_WORDS {
-        return 9223372036854775814;
+        return row::ROOM.code();
     }
     let read = decode(b, parts, symbols, n, at);
     match read {
-        TreeDecoded::Refused(k) => refusal_code(k),
-        TreeDecoded::Got(y) => {
+        Err(k) => k.code(),
+        Ok(y) => {
             let tree = y.tree;
             let children = y.children;
             let loose = y.loose;
             store_tree(words, tree_words(tree), children.0, loose);
-            y.next as u64
+            y.next.code()
         }
     }
 }

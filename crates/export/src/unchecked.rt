@@ -1,6 +1,5 @@
 // Stores into lent runs, for callers that have seen to the room.
 ghost use Rattle.std.specs.Prelude.{◌≡◌, ◌∷◌, [], ◌++◌, ◌+◌, ◌*◌, ◌≤◌, length};
-ghost use Rattle.format.specs.Width.{tree_size};
 ghost use Rattle.format.specs.Word.{put};
 ghost use Rattle.tree.specs.Loose.{loose_of};
 ghost use Rattle.tree.specs.Types.{tree_words_of};
@@ -8,13 +7,15 @@ ghost use Rattle.tree.specs.declared.types.TokenTree.TheVariants as trees;
 ghost use Rattle.export.specs.Steps.{loose_size, reported_size, loose_words, report_list};
 ghost use Rattle.export.specs.Cursors.{ahead_list, AnswerStored, BothStored, LeavesStored};
 
-use crate::replies::refused_code;
-use cursor::look::{Ahead, TwoLeaves};
-use cursor::plan::Answer;
+use crate::replies::Code;
+use cursor::look::Ahead;
+use cursor::plan::Reply;
 use cursor::state::At;
 use tree::loose::{Loose, bit, closing_loose, loose_spans, opening_loose};
 use tree::raw::place as wide;
+use tree::refusal::Refusal;
 use tree::types::TokenTree;
+use tree::unchecked::put_words;
 use tree::words::tree_words;
 use width::TREE_WORDS;
 
@@ -27,24 +28,16 @@ pub(crate) const REPORTED_WORDS: usize = TREE_WORDS + LOOSE_WORDS;
 // Two leaves go to so many words.
 pub(crate) const TWO_TREES: usize = 2 * REPORTED_WORDS;
 
-pub(crate) fn store_words(words: &mut [u32], at: usize, from: [u32; TREE_WORDS])
-    requires { at + tree_size ≤ length words.old }
-    ensures { words.new ≡ put words.old at from }
-{
-    let mut i: usize = 0;
-    while i < TREE_WORDS {
-        words[at + i] = from[i];
-        i = i + 1;
-    }
-}
-
 pub(crate) fn store_loose(words: &mut [u32], at: usize, loose: Loose)
     requires { at + loose_size ≤ length words.old }
     ensures { words.new ≡ put words.old at (loose_words (loose_of loose)) }
 {
-    words[at] = bit(opening_loose(loose));
-    words[at + 1] = bit(closing_loose(loose));
-    words[at + 2] = loose_spans(loose);
+    let report = [
+        bit(opening_loose(loose)),
+        bit(closing_loose(loose)),
+        loose_spans(loose),
+    ];
+    put_words(words, at, &report);
 }
 
 // A tree's words, and its report behind them.
@@ -52,7 +45,7 @@ pub(crate) fn store_reported(words: &mut [u32], at: usize, from: [u32; TREE_WORD
     requires { at + reported_size ≤ length words.old }
     ensures { words.new ≡ put words.old at (report_list (from, loose_of loose)) }
 {
-    store_words(words, at, from);
+    put_words(words, at, &from);
     store_loose(words, at + TREE_WORDS, loose);
 }
 
@@ -61,30 +54,34 @@ pub(crate) fn store_state(next: &mut [usize], place: usize, number: u32, third: 
     requires { 3 ≤ length next.old }
     ensures { next.new ≡ put next.old 0 (place ∷ number ∷ third ∷ []) }
 {
-    let tree = wide(number);
     next[0] = place;
-    next[1] = tree;
+    next[1] = wide(number);
     next[2] = third;
 }
 
 // ---- a cursor's answers
 
-pub(crate) fn store_answer(answer: Answer, at: At, next: &mut [usize], words: &mut [u32]) -> u64
+pub(crate) fn store_answer(
+    answer: Result<Reply, Refusal>,
+    at: At,
+    next: &mut [usize],
+    words: &mut [u32],
+) -> u64
     requires { (3 ≤ length next.old) × (2 * reported_size ≤ length words.old) }
     ensures { AnswerStored answer at next.old words.old
         result next.new words.new }
 {
     match answer {
-        Answer::Refused(refusal) => refused_code(refusal),
-        Answer::None => {
+        Err(refusal) => refusal.code(),
+        Ok(Reply::None) => {
             store_state(next, at.place, at.number, at.depth);
             0
         }
-        Answer::Done => {
+        Ok(Reply::Done) => {
             store_state(next, at.place, at.number, at.depth);
             3
         }
-        Answer::Tree(read) => {
+        Ok(Reply::Tree(read)) => {
             let tree = read.tree;
             let loose = read.loose;
             store_state(next, at.place, at.number, at.depth);
@@ -129,15 +126,22 @@ fn store_both(leaves: [Ahead; 2], at: At, next: &mut [usize], words: &mut [u32])
     2
 }
 
-pub(crate) fn store_leaves(two: TwoLeaves, at: At, next: &mut [usize], words: &mut [u32]) -> u64
+pub(crate) fn store_leaves(
+    two: Result<Option<[Ahead; 2]>, Refusal>,
+    at: At,
+    next: &mut [usize],
+    words: &mut [u32],
+) -> u64
     requires { (3 ≤ length next.old) × (2 * reported_size ≤ length words.old) }
     ensures { LeavesStored two at next.old words.old
         result next.new words.new }
 {
-    if !two.found {
-        let otherwise = two.otherwise;
-        return store_answer(otherwise, at, next, words);
+    match two {
+        Err(refusal) => refusal.code(),
+        Ok(None) => {
+            store_state(next, at.place, at.number, at.depth);
+            0
+        }
+        Ok(Some(leaves)) => store_both(leaves, at, next, words),
     }
-    let leaves = two.leaves;
-    store_both(leaves, at, next, words)
 }

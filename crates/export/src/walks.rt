@@ -7,24 +7,27 @@ ghost use Rattle.walk.specs.Walk.{Stepped};
 ghost use Rattle.export.specs.Steps.{reported_size, last_size, step_call, walk_list};
 ghost use Rattle.export.specs.Steps.{StepStored, WalkReplied, LastStored, LastReplied};
 
-use crate::replies::{TOO_SHORT, refused_code};
+use crate::replies::{Code, TOO_SHORT};
 use crate::unchecked::{REPORTED_WORDS, store_reported, store_state};
 use tree::loose::bit;
 use tree::raw::place as wide;
+use tree::refusal::Refusal;
 use tree::types::Span;
+use tree::unchecked::put_words;
 use tree::words::tree_words;
-use walk::last_span::{LastSpan, last_span};
-use walk::walk::{Answer, Step, Walk, advance, advance_skip_subtree};
-use width::{PART_WORDS, SPAN_WORDS};
+use walk::last_span::{ReportedSpan, last_span};
+use walk::walk::{Step, Walk, advance, advance_skip_subtree};
+use width::SPAN_WORDS;
 
 fn walk_step(b: &[u8], trees: u32, parts: &[u32], symbols: &[u32], walk: Walk, skip: bool) -> Step
     ensures { Stepped b.now trees parts.now symbols.now (step_call skip) walk
         result }
 {
     if skip {
-        return advance_skip_subtree(b, trees, parts, symbols, walk);
+        advance_skip_subtree(b, trees, parts, symbols, walk)
+    } else {
+        advance(b, trees, parts, symbols, walk)
     }
-    advance(b, trees, parts, symbols, walk)
 }
 
 fn store_walk(next: &mut [usize], walk: Walk)
@@ -40,15 +43,14 @@ fn store_step(step: Step, next: &mut [usize], words: &mut [u32]) -> u64
     ensures { StepStored step next.old words.old result next.new
         words.new }
 {
-    let answer = step.answer;
     let walk = step.walk;
-    match answer {
-        Answer::Refused(refusal) => refused_code(refusal),
-        Answer::None => {
+    match step.answer {
+        Err(refusal) => refusal.code(),
+        Ok(None) => {
             store_walk(next, walk);
             0
         }
-        Answer::Tree(read) => {
+        Ok(Some(read)) => {
             let tree = read.tree;
             let loose = read.loose;
             store_walk(next, walk);
@@ -77,51 +79,39 @@ pub extern "C" fn tt_walk(
         (record { place = place; number = number; left = left }) skip next.old words.old
         result next.new words.new }
 {
-    if next.len() < 3 {
-        return TOO_SHORT;
-    }
-    if words.len() < REPORTED_WORDS {
+    if next.len() < 3 || words.len() < REPORTED_WORDS {
         return TOO_SHORT;
     }
     let walk = Walk {
-        place: place,
-        number: number,
-        left: left,
+        place,
+        number,
+        left,
     };
     let step = walk_step(b, trees, parts, symbols, walk, skip);
     store_step(step, next, words)
 }
 
-// Where start and length of a span stand in its words.
-const START_AT: usize = PART_WORDS;
-
-const LEN_AT: usize = START_AT + 1;
-
 fn store_span(words: &mut [u32], span: Span)
     requires { span_size ≤ length words.old }
     ensures { words.new ≡ put words.old 0 (span_list span) }
 {
-    words[0] = span.file;
-    words[1] = span.ast_id;
-    words[2] = span.context;
-    words[START_AT] = span.start;
-    words[LEN_AT] = span.len;
+    let parts = [span.file, span.ast_id, span.context, span.start, span.len];
+    put_words(words, 0, &parts);
 }
 
 // A span's words and its report.
 const LAST_WORDS: usize = SPAN_WORDS + 1;
 
-fn store_last(last: LastSpan, words: &mut [u32]) -> u64
+fn store_last(last: Result<Option<ReportedSpan>, Refusal>, words: &mut [u32]) -> u64
     requires { last_size ≤ length words.old }
     ensures { LastStored last words.old result words.new }
 {
     match last {
-        LastSpan::Refused(refusal) => refused_code(refusal),
-        LastSpan::None => 0,
-        LastSpan::Span(last) => {
-            let span = last.span;
-            store_span(words, span);
-            words[SPAN_WORDS] = bit(last.loose);
+        Err(refusal) => refusal.code(),
+        Ok(None) => 0,
+        Ok(Some(found)) => {
+            store_span(words, found.span);
+            words[SPAN_WORDS] = bit(found.loose);
             1
         }
     }
@@ -146,9 +136,9 @@ pub extern "C" fn tt_last_span(
         return TOO_SHORT;
     }
     let walk = Walk {
-        place: place,
-        number: number,
-        left: left,
+        place,
+        number,
+        left,
     };
     let last = last_span(b, trees, parts, symbols, walk);
     store_last(last, words)

@@ -6,7 +6,9 @@ use mathlib.Core.List.{List}
 use native.Mathlib.Omega.{arith}
 use lib.ListN.{length, get_or, set}
 use lib.Seq.{sets}
-use lib.Dec.{eqb}
+use lib.Dec.{leb, eqb}
+use mathlib.Core.Logic.{⊎_elim}
+use Rattle.format.proofs.Tally.{lt_or_le}
 use borrow.Author.Tests.{eq-eqb, ne_eqb, le-leb, lt-leb}
 use Rattle.format.specs.Width.{part_size, span_size, open_at, tree_size}
 use Rattle.format.specs.Part.{part_words, part_from, same_part}
@@ -58,30 +60,21 @@ within_parts l s v e h = let k : tree_size * (v / 2 + 1) + tree_size ≤ length 
 
 module _ (l : List ℕ) (s : Bool) (v : ℕ) where
   module _ (e : s ≡ true) (kind : ℕ) (q : kind ≡ get_or l (tree_size * (v + 1)) 0) where
-    pub live_ident : kind ≡ 1 → true ≡ live_at l s v
+    pub live_ident : kind ≡ 1 → eqb kind 1 ≡ live_at l s v
     unfolding live_at
     live_ident h = rw (e, ← q) (simp (eq-eqb _ _ h))
 
-    pub live_literal : (kind ≡ 1 → ⊥) → kind ≡ 2 → true ≡ live_at l s v
+    pub live_literal : (kind ≡ 1 → ⊥) → eqb kind 2 ≡ live_at l s v
     unfolding live_at
-    live_literal h g = rw (e, ← q) (simp (ne_eqb _ _ h, eq-eqb _ _ g))
+    live_literal h = rw (e, ← q) (simp (ne_eqb _ _ h))
 
-    pub live_neither : (kind ≡ 1 → ⊥) → (kind ≡ 2 → ⊥) → false ≡ live_at l s v
-    unfolding live_at
-    live_neither h g = rw (e, ← q) (simp (ne_eqb _ _ h, ne_eqb _ _ g))
-
-  pub live_open : s ≡ false → v % 2 ≡ 0 → true ≡ live_at l s v
+  pub live_open : s ≡ false → v % 2 ≡ 0 → eqb (v % 2) 0 ≡ live_at l s v
   unfolding live_at
   live_open e h = rw e (simp (eq-eqb _ _ h))
 
-  module _ (e : s ≡ false) (h : v % 2 ≡ 0 → ⊥) (kind : ℕ) (q : kind ≡ get_or l (tree_size * (v / 2 + 1)) 0) where
-    pub live_close : kind ≡ 3 → true ≡ live_at l s v
-    unfolding live_at
-    live_close g = rw (e, ← q) (simp (ne_eqb _ _ h, eq-eqb _ _ g))
-
-    pub live_leaf : (kind ≡ 3 → ⊥) → false ≡ live_at l s v
-    unfolding live_at
-    live_leaf g = rw (e, ← q) (simp (ne_eqb _ _ h, ne_eqb _ _ g))
+  pub live_close : s ≡ false → (v % 2 ≡ 0 → ⊥) → (kind : ℕ) → kind ≡ get_or l (tree_size * (v / 2 + 1)) 0 → eqb kind 3 ≡ live_at l s v
+  unfolding live_at
+  live_close e h kind q = rw (e, ← q) (simp (ne_eqb _ _ h))
 
 -- ---- a key that is a part, read at its place
 
@@ -108,29 +101,25 @@ module _ (l : List ℕ) (s : Bool) (u v a b : ℕ) (ea : a ≡ key_place s u) (e
   unfolding alike_at
   alike_parts e = rw e (λ i. same_part (part_at l s u a e ea i) (part_at l s v b e eb i))
 
-  pub alike_first : (get_or l a 0 ≡ get_or l b 0 → ⊥) → false ≡ alike_at l s u v
+  pub alike_first : (get_or l a 0 ≡ get_or l b 0 → ⊥) → eqb (get_or l a 0) (get_or l b 0) ≡ alike_at l s u v
   unfolding part_in
-  alike_first h = go s refl
+  alike_first h = ne_eqb _ _ h ∙ go s refl
     where
       go : (x : Bool) → s ≡ x → false ≡ alike_at l s u v
       go true e = sym (alike_word e ∙ ne_eqb _ _ h)
       go false e = sym (alike_parts e ∙ simp (ne_eqb _ _ h))
 
-  pub alike_symbols : s ≡ true → get_or l a 0 ≡ get_or l b 0 → true ≡ alike_at l s u v
-  alike_symbols e h = sym (alike_word e ∙ eq-eqb _ _ h)
+  pub alike_symbols : s ≡ true → get_or l a 0 ≡ get_or l b 0 → s ≡ alike_at l s u v
+  alike_symbols e h = e ∙ sym (alike_word e ∙ eq-eqb _ _ h)
 
   module _ (e : s ≡ false) (h : get_or l a 0 ≡ get_or l b 0) where
-    pub alike_second : (get_or l (a + 1) 0 ≡ get_or l (b + 1) 0 → ⊥) → false ≡ alike_at l s u v
+    pub alike_second : (get_or l (a + 1) 0 ≡ get_or l (b + 1) 0 → ⊥) → eqb (get_or l (a + 1) 0) (get_or l (b + 1) 0) ≡ alike_at l s u v
     unfolding part_in
-    alike_second g = sym (alike_parts e ∙ simp (eq-eqb _ _ h, ne_eqb _ _ g))
+    alike_second g = ne_eqb _ _ g ∙ sym (alike_parts e ∙ simp (eq-eqb _ _ h, ne_eqb _ _ g))
 
-    pub alike_third : get_or l (a + 1) 0 ≡ get_or l (b + 1) 0 → (get_or l (a + 2) 0 ≡ get_or l (b + 2) 0 → ⊥) → false ≡ alike_at l s u v
+    pub alike_third : get_or l (a + 1) 0 ≡ get_or l (b + 1) 0 → eqb (get_or l (a + 2) 0) (get_or l (b + 2) 0) ≡ alike_at l s u v
     unfolding part_in
-    alike_third g k = sym (alike_parts e ∙ simp (eq-eqb _ _ h, eq-eqb _ _ g, ne_eqb _ _ k))
-
-    pub alike_all : get_or l (a + 1) 0 ≡ get_or l (b + 1) 0 → get_or l (a + 2) 0 ≡ get_or l (b + 2) 0 → true ≡ alike_at l s u v
-    unfolding part_in
-    alike_all g k = sym (alike_parts e ∙ simp (eq-eqb _ _ h, eq-eqb _ _ g, eq-eqb _ _ k))
+    alike_third g = sym (alike_parts e ∙ simp (eq-eqb _ _ h, eq-eqb _ _ g))
 
 -- ---- the hash
 
@@ -177,29 +166,29 @@ module _ (l : List ℕ) (size u v : ℕ) where
 -- ---- of the class
 
 module _ (l : List ℕ) (s : Bool) (classes class v : ℕ) (b : Bool) (e : b ≡ live_at l s v) where
-  pub in_all : classes ≤ 1 → b ≡ live_in l s classes class v
+  one_class : classes ≤ 1 → live_at l s v ≡ live_in l s classes class v
   unfolding live_in
-  in_all h = e ∙ ap (λ (f : ℕ → Bool). f v) (sym all)
+  one_class h = ap (λ (f : ℕ → Bool). f v) (sym all)
     where
       all : live_in l s classes class ≡ live_at l s
       all = simp (le-leb _ _ h)
 
-  module _ (h : 1 < classes) where
-    others : live_in l s classes class v ≡ (live_at l s v && eqb (class_of l s classes v) class)
-    unfolding live_in
-    others = simp (lt-leb _ _ h)
+  others : 1 < classes → live_in l s classes class v ≡ (live_at l s v && eqb (class_of l s classes v) class)
+  unfolding live_in
+  others h = simp (lt-leb _ _ h)
 
-    pub in_none : b ≡ false → false ≡ live_in l s classes class v
-    in_none z = let y : live_at l s v ≡ false = sym e ∙ z in sym (others ∙ simp y)
+  pub in_all : b ≡ true → classes ≤ 1 → leb classes 1 ≡ live_in l s classes class v
+  in_all z h = le-leb _ _ h ∙ sym z ∙ e ∙ one_class h
 
-    pub in_class : b ≡ true → (r : Bool) → r ≡ eqb (class_of l s classes v) class → r ≡ live_in l s classes class v
-    in_class z r q = let w : live_at l s v ≡ true = sym e ∙ z in q ∙ sym (others ∙ simp w)
+  pub in_none : b ≡ false → b ≡ live_in l s classes class v
+  in_none z =
+      ⊎_elim
+      (λ h. let y : live_at l s v ≡ false = sym e ∙ z in z ∙ sym (others h ∙ simp y))
+      (λ h. e ∙ one_class h)
+      (lt_or_le 1 classes)
 
-pub class_is : (x c k : ℕ) → c ≡ x → c ≡ k → true ≡ eqb x k
-class_is x c k e h = sym (eq-eqb x k (sym e ∙ h))
-
-pub class_not : (x c k : ℕ) → c ≡ x → (c ≡ k → ⊥) → false ≡ eqb x k
-class_not x c k e h = sym (ne_eqb x k (λ q. h (e ∙ q)))
+  pub in_class : b ≡ true → 1 < classes → (r : ℕ) → r ≡ class_of l s classes v → eqb r class ≡ live_in l s classes class v
+  in_class z h r q = let w : live_at l s v ≡ true = sym e ∙ z in ap (λ (x : ℕ). eqb x class) q ∙ sym (others h ∙ simp w)
 
 -- ---- a key in a run
 
@@ -241,4 +230,4 @@ pub part_stored : (l o o₁ : List ℕ) (from at : ℕ) → o₁ ≡ sets o at (
 unfolding part_in
 part_stored l o o₁ from at h = h
 
-pub ruleset key_cases = (store_out, none_at, count_none, count_symbols, count_parts, room_symbols, room_parts, place_symbols, place_parts, within_symbols, within_parts, live_ident, live_literal, live_neither, live_open, live_close, live_leaf, alike_first, alike_symbols, alike_second, alike_third, alike_all, slot_symbols, slot_parts, class_symbols, class_parts, in_all, in_none, in_class, class_is, class_not, limit_symbols, limit_parts, in_symbols, in_parts, put_symbols, put_parts, words_stored, part_stored)
+pub ruleset key_cases = (store_out, none_at, count_none, count_symbols, count_parts, room_symbols, room_parts, place_symbols, place_parts, within_symbols, within_parts, live_ident, live_literal, live_open, live_close, alike_first, alike_symbols, alike_second, alike_third, slot_symbols, slot_parts, class_symbols, class_parts, in_all, in_none, in_class, limit_symbols, limit_parts, in_symbols, in_parts, put_symbols, put_parts, words_stored, part_stored)

@@ -10,18 +10,113 @@ use crate::run::set_at;
 use slots::hash::mix;
 use width::{OPEN_AT, PART_WORDS, SPAN_WORDS, TREE_WORDS};
 
-pub fn key_count(l: &[u32], symbols: bool) -> usize
-    ensures { result ≡ key_count l.now symbols }
-{
-    let k = l.len() / TREE_WORDS;
-    if k == 0 {
-        return 0;
-    }
-    if symbols {
-        return k - 1;
-    }
-    2 * (k - 1)
+// The keys of a list: its symbols, or its parts.
+#[derive(Clone, Copy)]
+pub struct Keys<'a> {
+    pub list: &'a [u32],
+    pub symbols: bool,
+    // A number of a key fits a word.
+    ghost few: { key_count list.now symbols < 4294967295 },
 }
+
+impl Keys<'_> {
+    pub fn count(&self) -> usize
+        ensures { result ≡ key_count self.now.list.now self.now.symbols }
+    {
+        let k = self.list.len() / TREE_WORDS;
+        if k == 0 {
+            return 0;
+        }
+        if self.symbols {
+            return k - 1;
+        }
+        2 * (k - 1)
+    }
+
+    fn place_of(&self, v: usize) -> usize
+        requires { v < key_count self.now.list.now self.now.symbols }
+        ensures { (result ≡ key_place self.now.symbols v) × (result + part_size ≤ length self.now.list.now) }
+    {
+        place_of(self.list, self.symbols, v)
+    }
+
+    // Word 0 of tree n.
+    fn sort_of(&self, n: usize) -> u32
+        requires { tree_size * n + tree_size ≤ length self.now.list.now }
+        ensures { result ≡ get_or self.now.list.now (tree_size * n) 0 }
+    {
+        self.list[TREE_WORDS * n]
+    }
+
+    // Whether number v is a key.
+    pub fn is_live(&self, v: usize) -> bool
+        requires { v < key_count self.now.list.now self.now.symbols }
+        ensures { result ≡ live_at self.now.list.now self.now.symbols v }
+    {
+        if self.symbols {
+            let kind = self.sort_of(v + 1);
+            return kind == 1 || kind == 2;
+        }
+        v % 2 == 0 || self.sort_of(v / 2 + 1) == 3
+    }
+
+    // Whether two keys are the same.
+    pub fn alike(&self, u: usize, v: usize) -> bool
+        requires u_bound { u < key_count self.now.list.now self.now.symbols }
+        requires v_bound { v < key_count self.now.list.now self.now.symbols }
+        ensures { result ≡ alike_at self.now.list.now self.now.symbols u v }
+    {
+        alike(self.list, self.symbols, u, v)
+    }
+
+    // The slot where key v is looked for first.
+    pub fn slot(&self, v: usize, size: usize) -> usize
+        requires v_bound { v < key_count self.now.list.now self.now.symbols }
+        requires sizes { (0 < size) × (size ≤ 1048576) }
+        ensures { (result ≡ slot_of self.now.list.now self.now.symbols size v) × (result < size) }
+    {
+        slot(self.list, self.symbols, v, size)
+    }
+
+    fn class_of(&self, v: usize, classes: usize) -> usize
+        requires v_bound { v < key_count self.now.list.now self.now.symbols }
+        requires sizes { (0 < classes) × (classes ≤ 1048576) }
+        ensures { (result ≡ class_of self.now.list.now self.now.symbols classes v) × (result < classes) }
+    {
+        let l = self.list;
+        let a = self.place_of(v);
+        if self.symbols {
+            return mix(0, l[a], 0, classes);
+        }
+        mix(l[a + 2], l[a], l[a + 1], classes)
+    }
+
+    // Whether number v is a key of the class.
+    pub fn is_live_in(&self, classes: usize, class: usize, v: usize) -> bool
+        requires v_bound { v < key_count self.now.list.now self.now.symbols }
+        requires classes_bound { classes ≤ 1048576 }
+        ensures { result ≡ live_in self.now.list.now self.now.symbols classes class v }
+    {
+        self.is_live(v) && (classes <= 1 || self.class_of(v, classes) == class)
+    }
+
+    // Stores key v as the k-th of a run.
+    pub fn put(&self, v: usize, out: &mut [u32], k: usize)
+        requires { (v < key_count self.now.list.now self.now.symbols) × (k < 4294967295) }
+        ensures { out.new ≡ sets out.old (place_in self.now.symbols k)
+            (key_words self.now.list.now self.now.symbols v) }
+    {
+        let l = self.list;
+        let a = self.place_of(v);
+        if self.symbols {
+            set_at(out, k, l[a]);
+            return;
+        }
+        put_part(l, a, out, PART_WORDS * k);
+    }
+}
+
+// ---- the same of a list of any length
 
 fn place_of(l: &[u32], symbols: bool, v: usize) -> usize
     requires { (v < key_count l.now symbols) × (v < 4294967295) }
@@ -33,38 +128,6 @@ fn place_of(l: &[u32], symbols: bool, v: usize) -> usize
     TREE_WORDS * (v / 2 + 1) + (OPEN_AT + SPAN_WORDS * (v % 2))
 }
 
-// Word 0 of tree n.
-fn sort_of(l: &[u32], n: usize) -> u32
-    requires { tree_size * n + tree_size ≤ length l.now }
-    ensures { result ≡ get_or l.now (tree_size * n) 0 }
-{
-    l[TREE_WORDS * n]
-}
-
-// Whether number v is a key.
-pub fn live(l: &[u32], symbols: bool, v: usize) -> bool
-    requires { (v < key_count l.now symbols) × (v < 4294967295) }
-    ensures { result ≡ live_at l.now symbols v }
-{
-    if symbols {
-        let kind = sort_of(l, v + 1);
-        if kind == 1 {
-            return true;
-        }
-        if kind == 2 {
-            return true;
-        }
-        return false;
-    }
-    if v % 2 == 0 {
-        return true;
-    }
-    if sort_of(l, v / 2 + 1) == 3 {
-        return true;
-    }
-    false
-}
-
 // Whether two keys are the same.
 pub fn alike(l: &[u32], symbols: bool, u: usize, v: usize) -> bool
     requires u_bound { (u < key_count l.now symbols) × (u < 4294967295) }
@@ -73,19 +136,7 @@ pub fn alike(l: &[u32], symbols: bool, u: usize, v: usize) -> bool
 {
     let a = place_of(l, symbols, u);
     let b = place_of(l, symbols, v);
-    if l[a] != l[b] {
-        return false;
-    }
-    if symbols {
-        return true;
-    }
-    if l[a + 1] != l[b + 1] {
-        return false;
-    }
-    if l[a + 2] != l[b + 2] {
-        return false;
-    }
-    true
+    l[a] == l[b] && (symbols || l[a + 1] == l[b + 1] && l[a + 2] == l[b + 2])
 }
 
 // The slot where key v is looked for first.
@@ -100,61 +151,19 @@ pub fn slot(l: &[u32], symbols: bool, v: usize, size: usize) -> usize
     mix(l[a], l[a + 1], l[a + 2], size)
 }
 
-fn class_of(l: &[u32], symbols: bool, v: usize, classes: usize) -> usize
-    requires { (v < key_count l.now symbols) × (v < 4294967295) × (0 < classes) × (classes ≤ 1048576) }
-    ensures { (result ≡ class_of l.now symbols classes v) × (result < classes) }
-{
-    let a = place_of(l, symbols, v);
-    if symbols {
-        return mix(0, l[a], 0, classes);
-    }
-    mix(l[a + 2], l[a], l[a + 1], classes)
-}
-
-fn is_in_class(l: &[u32], symbols: bool, classes: usize, class: usize, v: usize) -> bool
-    requires { (v < key_count l.now symbols) × (v < 4294967295) × (0 < classes) × (classes ≤ 1048576) }
-    ensures { result ≡ eqb (class_of l.now symbols classes v) class }
-{
-    if class_of(l, symbols, v, classes) == class {
-        return true;
-    }
-    false
-}
-
-// Whether number v is a key of the class.
-pub fn live_in(l: &[u32], symbols: bool, classes: usize, class: usize, v: usize) -> bool
-    requires { (v < key_count l.now symbols) × (v < 4294967295) × (classes ≤ 1048576) }
-    ensures { result ≡ live_in l.now symbols classes class v }
-{
-    let key = live(l, symbols, v);
-    if classes <= 1 {
-        return key;
-    }
-    if key {
-        return is_in_class(l, symbols, classes, class, v);
-    }
-    false
-}
-
 // The word where key k begins in a run of keys.
 pub fn place_in(symbols: bool, k: usize) -> usize
     requires { k < 4294967295 }
     ensures { (result ≡ place_in symbols k) × (result ≤ part_size * k) }
 {
-    if symbols {
-        return k;
-    }
-    PART_WORDS * k
+    if symbols { k } else { PART_WORDS * k }
 }
 
 // More distinct keys than this are ordered by their counts.
 pub fn limit_of(symbols: bool) -> usize
     ensures { result ≡ limit_of symbols }
 {
-    if symbols {
-        return 63;
-    }
-    15
+    if symbols { 63 } else { 15 }
 }
 
 // Stores the words of a part.
@@ -174,18 +183,4 @@ pub fn put_part(l: &[u32], from: usize, out: &mut [u32], at: usize)
     ensures { out.new ≡ sets out.old at (part_words (part_in l.now from)) }
 {
     put_words(out, at, l[from], l[from + 1], l[from + 2]);
-}
-
-// Stores key v as the k-th of a run.
-pub fn put_key(l: &[u32], symbols: bool, v: usize, out: &mut [u32], k: usize)
-    requires { (v < key_count l.now symbols) × (v < 4294967295) × (k < 4294967295) }
-    ensures { out.new ≡ sets out.old (place_in symbols k)
-        (key_words l.now symbols v) }
-{
-    let a = place_of(l, symbols, v);
-    if symbols {
-        set_at(out, k, l[a]);
-        return;
-    }
-    put_part(l, a, out, PART_WORDS * k);
 }

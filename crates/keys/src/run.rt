@@ -5,10 +5,7 @@ ghost use Rattle.std.specs.Prelude.{◌≡◌, ◌+◌, ◌<◌, get_or, set};
 pub fn get_at(run: &[u32], i: usize) -> u32
     ensures { result ≡ get_or run.now i 0 }
 {
-    if i < run.len() {
-        return run[i];
-    }
-    0
+    if i < run.len() { run[i] } else { 0 }
 }
 
 // Stores x where there is such a place.
@@ -26,6 +23,6 @@ pub fn raise(run: &mut [u32], i: usize)
     ensures { run.new ≡ set run.old i (get_or run.old i 0 + 1) }
 {
     if i < run.len() {
-        run[i] = run[i] + 1;
+        run[i] += 1;
     }
 }

@@ -1,13 +1,14 @@
 -- One law for each return and each turn of a loop, with premises as the code's tests and calls give them.
 use Prim.Native.Nat.{ℕ, suc, ◌+◌, ◌*◌, ◌-◌, ◌%◌, ◌≤◌, ◌<◌}
-use mathlib.Core.Bool.{Bool, true, false, not}
+use mathlib.Core.Bool.{Bool, true, false}
 use mathlib.Core.Path.{◌≡◌, refl, sym, ap, ◌∙◌}
 use mathlib.Core.List.{List, [], ◌∷◌}
 use native.Mathlib.Omega.{arith}
 use native.Mathlib.Nat.{add-zero}
-use borrow.Author.Tests.{le-leb, lt-leb, eq-eqb, ne_eqb, eqb-true, leb-true, not-true, not-false}
+use borrow.Author.Tests.{eq-eqb, ne_eqb, eqb-true, eqb-false, leb-true}
 use lib.Dec.{leb, eqb}
 use lib.ListN.{length, get_or, set}
+use Rattle.std.specs.Prelude.{Result, Ok, Err, ⊤, if◌then◌else◌}
 use Rattle.format.specs.Verdict as format
 use Rattle.format.specs.Verdict.{passed, refused, ◌and_then◌, each_from}
 use Rattle.format.specs.Nest.{still_open, innermost, nest}
@@ -21,28 +22,26 @@ use Rattle.format.proofs.Holding.{holding_leaf, holding_same, holding_two, holdi
 use Rattle.format.proofs.NestLaw.{still_above, still_below}
 use Rattle.tree.specs.Refusal.{verdict_answer}
 use Rattle.tree.specs.declared.refusal.Refusal.{Refusal}
-use Rattle.tree.specs.declared.refusal.Verdict.{Verdict}
-use Rattle.tree.specs.declared.refusal.Verdict.TheVariants.{Passed, Refused}
 use Rattle.list.specs.Pass.{fields_from, is_sub, next_sub, is_rooted, pass_from, nest_below, nest_row}
 use Rattle.list.proofs.PassLaw.{pass_three, pass_four, pass_sub, pass_end, pass_next, next_sub_lem, next_most, next_least, next_past, next_here, next_end}
 
 -- ---- answers
 
-pub refused_answer : (r n : ℕ) → Refused (record { number = r; tree = n }) ≡ verdict_answer (refused r n)
+pub refused_answer : (r n : ℕ) → Err (record { number = r; tree = n }) ≡ verdict_answer (refused r n)
 unfolding verdict_answer
 refused_answer r n = refl
 
-passed_answer : Passed ≡ verdict_answer passed
+passed_answer : Ok tt ≡ verdict_answer passed
 unfolding verdict_answer
 passed_answer = refl
 
 -- two checks of which the first refuses, or passes
-pub answer_refused : (v w : format.Verdict) (a : Refusal) → verdict_answer v ≡ Refused a → verdict_answer (v and_then w) ≡ Refused a
+pub answer_refused : (v w : format.Verdict) (a : Refusal) → verdict_answer v ≡ Err a → verdict_answer (v and_then w) ≡ Err a
 unfolding verdict_answer
 answer_refused passed w a e = let z : ◌≡◌ {A = ℕ} 0 1 = cc in absurd (omega arith)
 answer_refused (refused r n) w a e = e
 
-pub answer_passed : (v w : format.Verdict) → verdict_answer v ≡ Passed → verdict_answer (v and_then w) ≡ verdict_answer w
+pub answer_passed : (v w : format.Verdict) → verdict_answer v ≡ Ok tt → verdict_answer (v and_then w) ≡ verdict_answer w
 unfolding verdict_answer
 answer_passed passed w e = refl
 answer_passed (refused r n) w e = let z : ◌≡◌ {A = ℕ} 0 1 = cc in absurd (omega arith)
@@ -50,7 +49,7 @@ answer_passed (refused r n) w e = let z : ◌≡◌ {A = ℕ} 0 1 = cc in absurd
 -- ---- row 2
 
 module _ (l : List ℕ) (n : ℕ) (e : fields_from l 0 ≡ fields_from l n) where
-  pub fields_end : list_count l ≤ n → Passed ≡ verdict_answer (fields_from l 0)
+  pub fields_end : list_count l ≤ n → Ok tt ≡ verdict_answer (fields_from l 0)
   unfolding fields_from each_from
   fields_end h = let z : list_count l - n ≡ 0 = omega arith in passed_answer ∙ ap verdict_answer (sym (e ∙ rw z))
 
@@ -58,16 +57,16 @@ module _ (l : List ℕ) (n : ℕ) (e : fields_from l 0 ≡ fields_from l n) wher
     one_less : list_count l - n ≡ suc (list_count l - (n + 1))
     one_less = omega arith
 
-    pub fields_two : not y ≡ true → (v : Verdict) → v ≡ verdict_answer (refused 2 n) → v ≡ verdict_answer (fields_from l 0)
+    pub fields_two : y ≡ false → (v : Result ⊤ Refusal) → v ≡ verdict_answer (refused 2 n) → v ≡ verdict_answer (fields_from l 0)
     unfolding fields_from each_from
     fields_two k v q =
-        let a : word_fields (word_of l n) ≡ false = sym f ∙ not-true y k in
+        let a : word_fields (word_of l n) ≡ false = sym f ∙ k in
         q ∙ ap verdict_answer (sym (e ∙ rw one_less (simp a)))
 
-    pub fields_next : not y ≡ false → fields_from l 0 ≡ fields_from l (n + 1)
+    pub fields_next : y ≡ true → fields_from l 0 ≡ fields_from l (n + 1)
     unfolding fields_from each_from
     fields_next k =
-        let a : word_fields (word_of l n) ≡ true = sym f ∙ not-false y k in
+        let a : word_fields (word_of l n) ≡ true = sym f ∙ k in
         e ∙ rw one_less (simp a)
 
 pub ruleset row_two_cases = (fields_end, fields_two, fields_next)
@@ -75,8 +74,8 @@ pub ruleset row_two_cases = (fields_end, fields_two, fields_next)
 -- ---- the next subtree
 
 module _ (l : List ℕ) (from n : ℕ) (e : next_sub l from ≡ next_sub l n) where
-  pub next_stops : list_count l ≤ n → n ≡ next_sub l from
-  next_stops h = sym (e ∙ next_end l n h)
+  pub next_stops : (m : ℕ) → m ≡ list_count l → n ≡ m → m ≡ next_sub l from
+  next_stops m k h = sym (e ∙ rw h (next_end l m (omega arith)))
 
   module _ (h : n < list_count l) where
     sort : is_sub l n ≡ eqb (get_or l (tree_size * n) 0) 3
@@ -94,16 +93,19 @@ pub ruleset next_cases = (next_stops, next_found, next_goes)
 -- ---- the open ends
 
 module _ (ends : List ℕ) (n depth d : ℕ) (e : still_open n (open_ends ends depth) ≡ still_open n (open_ends ends d)) where
-  pub none_open_lem : d ≤ 0 → open_ends ends d ≡ still_open n (open_ends ends depth)
+  pub none_open_lem : d ≡ 0 → open_ends ends 0 ≡ still_open n (open_ends ends depth)
   unfolding open_ends still_open
-  none_open_lem h = let z : d ≡ 0 = omega arith in sym (e ∙ rw z)
+  none_open_lem h = sym (e ∙ rw h)
 
-  module _ (h : 0 < d) (x : ℕ) (f : x ≡ get_or ends (d - 1) 0) where
-    pub stays_open : n < x → open_ends ends d ≡ still_open n (open_ends ends depth)
-    stays_open k = sym (e ∙ ap (still_open n) (open_suc ends d h) ∙ still_above n (get_or ends (d - 1) 0) (open_ends ends (d - 1)) (omega arith) ∙ sym (open_suc ends d h))
+  module _ (i : ℕ) (h : i + 1 ≡ d) where
+    last : open_ends ends d ≡ get_or ends i 0 ∷ open_ends ends i
+    last = let k : d - 1 ≡ i = omega arith in rw k at (open_suc ends d (omega arith))
 
-    pub is_shut : x ≤ n → still_open n (open_ends ends depth) ≡ still_open n (open_ends ends (d - 1))
-    is_shut k = e ∙ ap (still_open n) (open_suc ends d h) ∙ still_below n (get_or ends (d - 1) 0) (open_ends ends (d - 1)) (omega arith)
+    pub stays_open : n < get_or ends i 0 → (r : ℕ) → r ≡ d → open_ends ends r ≡ still_open n (open_ends ends depth)
+    stays_open k r q = rw q (sym (e ∙ ap (still_open n) last ∙ still_above n (get_or ends i 0) (open_ends ends i) (omega arith) ∙ sym last))
+
+    pub is_shut : get_or ends i 0 ≤ n → still_open n (open_ends ends depth) ≡ still_open n (open_ends ends i)
+    is_shut k = e ∙ ap (still_open n) last ∙ still_below n (get_or ends i 0) (open_ends ends i) (omega arith)
 
 pub ruleset open_cases = (none_open_lem, stays_open, is_shut)
 
@@ -123,23 +125,6 @@ module _ (l : List ℕ) where
   pub root_sort : (get_or l 0 0 ≡ 3 → ⊥) → false ≡ is_rooted l
   unfolding is_rooted
   root_sort h = let a : eqb (get_or l 0 0) 3 ≡ false = ne_eqb _ _ h in simp a
-
-  module _ (h : get_or l 0 0 ≡ 3) (e : ℕ) (f : e ≡ 0 + 1 + word_of l 0 1) where
-    pub root_part : (e ≡ list_count l → ⊥) → false ≡ is_rooted l
-    unfolding is_rooted
-    root_part k =
-        let a : eqb (get_or l 0 0) 3 ≡ true = eq-eqb _ _ h in
-        let b : eqb (0 + 1 + word_of l 0 1) (list_count l) ≡ false = ne_eqb _ _ (λ q. k (f ∙ q)) in
-        simp (a, b)
-
-    pub root_whole : e ≡ list_count l → true ≡ is_rooted l
-    unfolding is_rooted
-    root_whole k =
-        let a : eqb (get_or l 0 0) 3 ≡ true = eq-eqb _ _ h in
-        let b : eqb (0 + 1 + word_of l 0 1) (list_count l) ≡ true = eq-eqb _ _ (sym f ∙ k) in
-        simp (a, b)
-
-pub ruleset root_cases = (root_sort, root_part, root_whole)
 
 -- ---- the pass
 
@@ -166,7 +151,7 @@ pass_starts l ends n e h f =
     }
 
 module _ (l ends : List ℕ) (n depth : ℕ) (p : Passing l n depth ends) where
-  pub pass_ends : list_count l ≤ n → Passed ≡ verdict_answer (nest_below l)
+  pub pass_ends : list_count l ≤ n → Ok tt ≡ verdict_answer (nest_below l)
   pass_ends h = passed_answer ∙ ap verdict_answer (sym (p.same ∙ pass_end l n (open_ends ends depth) h))
 
   module _ (h : n < list_count l) (d : ℕ) (o : open_ends ends d ≡ still_open n (open_ends ends depth)) (a : ℕ) (f : a ≡ innermost (list_count l) (open_ends ends d))
@@ -177,20 +162,20 @@ module _ (l ends : List ℕ) (n depth : ℕ) (p : Passing l n depth ends) where
     deep : length (still_open n (open_ends ends depth)) ≡ d
     deep = ap length (sym o) ∙ open_length ends d
 
-    pub passes_end : a < e → (v : Verdict) → v ≡ verdict_answer (refused 3 n) → v ≡ verdict_answer (nest_below l)
+    pub passes_end : a < e → (v : Result ⊤ Refusal) → v ≡ verdict_answer (refused 3 n) → v ≡ verdict_answer (nest_below l)
     passes_end k v q =
         let u = around in
         q ∙ ap verdict_answer (sym (p.same ∙ pass_three l n (open_ends ends depth) h (p.here h) (omega arith)))
 
     module _ (k : e ≤ a) where
-      pub too_deep : 256 ≤ d → (v : Verdict) → v ≡ verdict_answer (refused 4 n) → v ≡ verdict_answer (nest_below l)
+      pub too_deep : 256 ≤ d → (v : Result ⊤ Refusal) → v ≡ verdict_answer (refused 4 n) → v ≡ verdict_answer (nest_below l)
       too_deep i v q =
           let u = around in
           let w = deep in
           q ∙ ap verdict_answer (sym (p.same ∙ pass_four l n (open_ends ends depth) h (p.here h) (omega arith) (omega arith)))
 
-      pub pass_goes : d < 256 → (x : ℕ) → length ends ≡ x → x ≡ 256 → (m : ℕ) → m ≡ next_sub l (n + 1) → Passing l m (d + 1) (set ends d e)
-      pass_goes i x y z m r =
+      pub pass_goes : d < 256 → length ends ≡ 256 → (m : ℕ) → m ≡ next_sub l (n + 1) → Passing l m (d + 1) (set ends d e)
+      pass_goes i y m r =
           let u = around in
           let w = deep in
           record {
@@ -223,78 +208,51 @@ module _ (l : List ℕ) where
         let e : get_or l 1 0 ≡ list_count l - 1 = omega arith in
         ap nest_row (sym (holding_same l e)) ∙ held_row a
 
-module _ (l : List ℕ) (b : Bool) (e : b ≡ is_rooted l) where
-  pub not_rooted : not b ≡ true → (v : Verdict) → v ≡ verdict_answer (refused 3 0) → v ≡ verdict_answer (nest_row l)
-  not_rooted k v q = q ∙ ap verdict_answer (sym (unrooted_row l (sym e ∙ not-true b k)))
+module _ (l : List ℕ) (some : 1 ≤ list_count l) where
+  -- rows 3 and 4 by whether the root holds all others
+  nest_is : nest_row l ≡ (if is_rooted l then nest_below l else refused 3 0)
+  nest_is = go (is_rooted l) refl
+    where
+      go : (b : Bool) → is_rooted l ≡ b → nest_row l ≡ (if b then nest_below l else refused 3 0)
+      go true h = rooted_row l some h
+      go false h = unrooted_row l h
 
-  pub rooted_pass : not b ≡ false → 1 ≤ list_count l → (v : Verdict) → v ≡ verdict_answer (nest_below l) → v ≡ verdict_answer (nest_row l)
-  rooted_pass k h v q = q ∙ ap verdict_answer (sym (rooted_row l h (sym e ∙ not-false b k)))
+  -- … of a list whose root is taken to hold all others
+  held_is : nest_row (holding_all l) ≡ (if eqb (get_or l 0 0) 3 then nest_below l else refused 3 0)
+  held_is = go (eqb (get_or l 0 0) 3) refl
+    where
+      go : (b : Bool) → eqb (get_or l 0 0) 3 ≡ b → nest_row (holding_all l) ≡ (if b then nest_below l else refused 3 0)
+      go true h = held_row l some (eqb-true _ _ h)
+      go false h = let n = eqb-false _ _ h in ap nest_row (holding_leaf l n) ∙ unrooted_row l (sym (root_sort l n))
 
-pub ruleset nest_cases = (not_rooted, rooted_pass)
+  module _ (r : Result ⊤ Refusal) (e : r ≡ verdict_answer (fields_from l 0)) where
+    whole : verdict_answer (fields_from l 0 and_then nest_row l) ≡ verdict_answer (list_rules l)
+    unfolding list_rules fields_from nest_row
+    whole = let z : list_count l - 0 ≡ list_count l = omega arith in rw z
 
--- … of a list whose root is taken to hold all others
-module _ (l : List ℕ) (v : Verdict) where
-  pub leaf_root : (get_or l 0 0 ≡ 3 → ⊥) → v ≡ verdict_answer (refused 3 0) → v ≡ verdict_answer (nest_row (holding_all l))
-  leaf_root h q = q ∙ ap verdict_answer (sym (ap nest_row (holding_leaf l h) ∙ unrooted_row l (sym (root_sort l h))))
+    pub rules_two : (a : Refusal) → r ≡ Err a → Err a ≡ verdict_answer (list_rules l)
+    rules_two a k = sym (answer_refused (fields_from l 0) (nest_row l) a (sym e ∙ k)) ∙ whole
 
-  pub holding_root : get_or l 0 0 ≡ 3 → 1 ≤ list_count l → v ≡ verdict_answer (nest_below l) → v ≡ verdict_answer (nest_row (holding_all l))
-  holding_root h some q = q ∙ ap verdict_answer (sym (held_row l some h))
+    pub rules_nest : r ≡ Ok tt → (b : Bool) → b ≡ is_rooted l → (v : Result ⊤ Refusal) → v ≡ verdict_answer (if b then nest_below l else refused 3 0) → v ≡ verdict_answer (list_rules l)
+    rules_nest k b m v q = rw m at q ∙ ap verdict_answer (sym nest_is) ∙ sym (answer_passed (fields_from l 0) (nest_row l) (sym e ∙ k)) ∙ whole
 
-pub ruleset holding_cases = (leaf_root, holding_root)
+    held_whole : verdict_answer (fields_from l 0 and_then nest_row (holding_all l)) ≡ verdict_answer (list_rules (holding_all l))
+    unfolding list_rules fields_from nest_row
+    held_whole =
+        let z : list_count l - 0 ≡ list_count l = omega arith in
+        rw z (ap (λ v. verdict_answer (v and_then nest word_shape (given (holding_all l)))) (sym (holding_two l)))
 
-module _ (l : List ℕ) (r : Verdict) (e : r ≡ verdict_answer (fields_from l 0)) where
-  whole : verdict_answer (fields_from l 0 and_then nest_row l) ≡ verdict_answer (list_rules l)
-  unfolding list_rules fields_from nest_row
-  whole = let z : list_count l - 0 ≡ list_count l = omega arith in rw z
+    pub held_two : (a : Refusal) → r ≡ Err a → Err a ≡ verdict_answer (list_rules (holding_all l))
+    held_two a k = sym (answer_refused (fields_from l 0) (nest_row (holding_all l)) a (sym e ∙ k)) ∙ held_whole
 
-  pub rules_two : (a : Refusal) → r ≡ Refused a → Refused a ≡ verdict_answer (list_rules l)
-  rules_two a k = sym (answer_refused (fields_from l 0) (nest_row l) a (sym e ∙ k)) ∙ whole
-
-  pub rules_nest : r ≡ Passed → (v : Verdict) → v ≡ verdict_answer (nest_row l) → v ≡ verdict_answer (list_rules l)
-  rules_nest k v q = q ∙ sym (answer_passed (fields_from l 0) (nest_row l) (sym e ∙ k)) ∙ whole
+    pub held_nest : r ≡ Ok tt → (v : Result ⊤ Refusal) → v ≡ verdict_answer (if eqb (get_or l 0 0) 3 then nest_below l else refused 3 0) → v ≡ verdict_answer (list_rules (holding_all l))
+    held_nest k v q = q ∙ ap verdict_answer (sym held_is) ∙ sym (answer_passed (fields_from l 0) (nest_row (holding_all l)) (sym e ∙ k)) ∙ held_whole
 
 pub ruleset rules_cases = (rules_two, rules_nest)
-
--- … of a list whose root is taken to hold all others
-module _ (l : List ℕ) (r : Verdict) (e : r ≡ verdict_answer (fields_from l 0)) where
-  held_whole : verdict_answer (fields_from l 0 and_then nest_row (holding_all l)) ≡ verdict_answer (list_rules (holding_all l))
-  unfolding list_rules fields_from nest_row
-  held_whole =
-      let z : list_count l - 0 ≡ list_count l = omega arith in
-      rw z (ap (λ v. verdict_answer (v and_then nest word_shape (given (holding_all l)))) (sym (holding_two l)))
-
-  pub held_two : (a : Refusal) → r ≡ Refused a → Refused a ≡ verdict_answer (list_rules (holding_all l))
-  held_two a k = sym (answer_refused (fields_from l 0) (nest_row (holding_all l)) a (sym e ∙ k)) ∙ held_whole
-
-  pub held_nest : r ≡ Passed → (v : Verdict) → v ≡ verdict_answer (nest_row (holding_all l)) → v ≡ verdict_answer (list_rules (holding_all l))
-  held_nest k v q = q ∙ sym (answer_passed (fields_from l 0) (nest_row (holding_all l)) (sym e ∙ k)) ∙ held_whole
 
 pub ruleset held_cases = (held_two, held_nest)
 
 -- ---- row 1
-
-module _ (l : List ℕ) where
-  pub odd_words : (length l % tree_size ≡ 0 → ⊥) → false ≡ list_sized l
-  odd_words h = let a : eqb (length l % tree_size) 0 ≡ false = ne_eqb _ _ h in simp a
-
-  module _ (h : length l % tree_size ≡ 0) where
-    even : eqb (length l % tree_size) 0 ≡ true
-    even = eq-eqb _ _ h
-
-    pub no_trees : list_count l < 1 → false ≡ list_sized l
-    no_trees k = let a : leb 1 (list_count l) ≡ false = lt-leb 1 (list_count l) k in simp (even, a)
-
-    module _ (k : 1 ≤ list_count l) where
-      some : leb 1 (list_count l) ≡ true
-      some = le-leb 1 (list_count l) k
-
-      pub many_trees : 1048576 < list_count l → false ≡ list_sized l
-      many_trees i = let a : leb (list_count l) 1048576 ≡ false = lt-leb (list_count l) 1048576 i in simp (even, some, a)
-
-      pub trees_fit : list_count l ≤ 1048576 → true ≡ list_sized l
-      trees_fit i = let a : leb (list_count l) 1048576 ≡ true = le-leb (list_count l) 1048576 i in simp (even, some, a)
-
-pub ruleset sized_cases = (odd_words, no_trees, many_trees, trees_fit)
 
 -- what a caller learns of a list that row 1 passes
 module _ (l : List ℕ) (b : Bool) (e : b ≡ list_sized l) (k : b ≡ true) where
@@ -307,11 +265,11 @@ module _ (l : List ℕ) (b : Bool) (e : b ≡ list_sized l) (k : b ≡ true) whe
   pub sized_most : list_count l ≤ 1048576
   sized_most = leb-true (list_count l) 1048576 three.2
 
-module _ (l : List ℕ) (b : Bool) (e : b ≡ list_sized l) (v : Verdict) where
-  pub rows_one : not b ≡ true → v ≡ verdict_answer (refused 1 0) → v ≡ verdict_answer (list_rows l)
-  rows_one k q = let a = sym e ∙ not-true b k in q ∙ simp a
+module _ (l : List ℕ) (b : Bool) (e : b ≡ list_sized l) (v : Result ⊤ Refusal) where
+  pub rows_one : b ≡ false → v ≡ verdict_answer (refused 1 0) → v ≡ verdict_answer (list_rows l)
+  rows_one k q = let a = sym e ∙ k in q ∙ simp a
 
-  pub rows_rules : not b ≡ false → v ≡ verdict_answer (list_rules l) → v ≡ verdict_answer (list_rows l)
-  rows_rules k q = let a = sym e ∙ not-false b k in q ∙ simp a
+  pub rows_rules : b ≡ true → v ≡ verdict_answer (list_rules l) → v ≡ verdict_answer (list_rows l)
+  rows_rules k q = let a = sym e ∙ k in q ∙ simp a
 
-pub ruleset rows_cases = (not-false, sized_some, sized_most, rows_one, rows_rules)
+pub ruleset rows_cases = (sized_some, sized_most, rows_one, rows_rules)

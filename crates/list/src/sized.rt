@@ -1,92 +1,93 @@
 // Rows 2 to 4 of a list whose tree count row 1 has passed.
-ghost use Rattle.std.specs.Prelude.{◌≡◌, ◌+◌, ◌<◌, ◌≤◌, length, get_or};
+ghost use Rattle.std.specs.Prelude.{◌≡◌, ◌+◌, ◌<◌, ◌≤◌, get_or, if◌then◌else◌};
 ghost use Rattle.format.specs.Builder.{holding_all};
 ghost use Rattle.format.specs.Nest.{still_open, innermost};
 ghost use Rattle.format.proofs.OpenEnds.{open_ends};
 ghost use Rattle.format.specs.Verdict.{refused};
 ghost use Rattle.format.specs.WordList.{word_of, list_count, list_rules};
-ghost use Rattle.list.specs.Pass.{fields_from, next_sub, is_rooted, nest_below, nest_row};
+ghost use Rattle.list.specs.Pass.{fields_from, next_sub, is_rooted, nest_below};
 ghost use Rattle.tree.specs.Refusal.{verdict_answer};
 
+use pack::row;
+use pack::row::Row;
 use tree::plain::fields_at;
-use tree::raw::place;
-use tree::refusal::{Refusal, Verdict};
+use tree::refusal::Refusal;
 use width::TREE_WORDS;
+use width::sort::SUBTREE;
 
 // How many subtrees may be open at once.
 const DEPTH: usize = 256;
 
 // Row `number` at tree n.
-pub fn refused(number: u32, n: usize) -> Verdict
+#[tactic(auto, using(crate::proofs::Returns::refused_answer))]
+pub fn refused(number: Row, n: usize) -> Result<(), Refusal>
     requires { n < 4294967296 }
     ensures { result ≡ verdict_answer (refused number n) }
 {
-    Verdict::Refused(Refusal {
-        number: number,
+    Err(Refusal {
+        number,
         tree: n as u32,
     })
 }
 
 // ---- row 2
 
-fn row_two(l: &[u32]) -> Verdict
+#[tactic(auto, using(crate::proofs::Returns::row_two_cases))]
+fn row_two(l: &[u32]) -> Result<(), Refusal>
     requires { list_count l.now ≤ 1048576 }
     ensures { result ≡ verdict_answer (fields_from l.now 0) }
 {
-    let count = l.len() / TREE_WORDS;
-    let mut n: usize = 0;
-    while n < count {
+    for n in 0..l.len() / TREE_WORDS {
         if !fields_at(l, n) {
-            return refused(2, n);
+            return refused(row::FIELD, n);
         }
-        n = n + 1;
     }
-    Verdict::Passed
+    Ok(())
 }
 
 // ---- rows 3 and 4
 
 // The first subtree from a tree on, or the count.
+#[tactic(auto, using(crate::proofs::Returns::next_cases))]
 fn next_subtree(l: &[u32], from: usize) -> usize
     requires { from ≤ list_count l.now }
     ensures { result ≡ next_sub l.now from }
 {
     let count = l.len() / TREE_WORDS;
-    let mut n = from;
-    while n < count {
-        if l[TREE_WORDS * n] == 3 {
+    for n in from..count {
+        if l[TREE_WORDS * n] == SUBTREE {
             return n;
         }
-        n = n + 1;
     }
-    n
+    count
 }
 
 // How many of the open subtrees, the outermost first, end after tree n.
-fn still_open(ends: &[u32], depth: usize, n: usize) -> usize
-    requires { depth ≤ length ends.now }
+#[tactic(auto, using(crate::proofs::Returns::open_cases))]
+fn still_open(ends: &[u32; DEPTH], depth: usize, n: usize) -> usize
+    requires { depth ≤ 256 }
     ensures { (result ≤ depth) × (open_ends ends.now result ≡ still_open n
         (open_ends ends.now depth)) }
 {
-    let mut d = depth;
-    while 0 < d {
-        if n < place(ends[d - 1]) {
-            return d;
+    for d in (0..depth).rev() {
+        if n < ends[d] as usize {
+            return d + 1;
         }
-        d = d - 1;
     }
-    d
+    0
 }
 
 // The end of the innermost open subtree, or of the list.
-fn end_around(ends: &[u32], depth: usize, count: usize) -> usize
-    requires { (depth ≤ length ends.now) × (count < 4294967296) }
+#[tactic(auto, using(crate::proofs::Returns::around_cases))]
+fn end_around(ends: &[u32; DEPTH], depth: usize, count: usize) -> usize
+    requires { (depth ≤ 256) × (count < 4294967296) }
     ensures { (result ≡ innermost count (open_ends ends.now depth)) × (result < 4294967296) }
 {
     if depth == 0 {
-        return count;
+        count
+    } else {
+        ends[depth - 1] as usize
     }
-    place(ends[depth - 1])
 }
 
 // The number after the last descendant of subtree n.
@@ -94,28 +95,23 @@ fn end_of(l: &[u32], n: usize) -> usize
     requires { (n < list_count l.now) × (list_count l.now ≤ 1048576) }
     ensures { result ≡ n + 1 + word_of l.now n 1 }
 {
-    let count = place(l[TREE_WORDS * n + 1]);
-    n + 1 + count
+    n + 1 + l[TREE_WORDS * n + 1] as usize
 }
 
 // Whether tree 0 is a subtree that holds all others.
+#[tactic(auto, unfolding(crate::specs::Pass::is_rooted))]
 fn is_rooted(l: &[u32]) -> bool
     requires { (1 ≤ list_count l.now) × (list_count l.now ≤ 1048576) }
     ensures { result ≡ is_rooted l.now }
 {
-    if l[0] != 3 {
-        return false;
-    }
-    if end_of(l, 0) != l.len() / TREE_WORDS {
-        return false;
-    }
-    true
+    l[0] == SUBTREE && end_of(l, 0) == l.len() / TREE_WORDS
 }
 
 // The ascending pass from subtree to subtree below the root, with the ends of those that are open, the root's first.
-fn nest_pass(l: &[u32], ends: &mut [u32]) -> Verdict
+#[tactic(auto, using(crate::proofs::Returns::pass_cases))]
+fn nest_pass(l: &[u32], ends: &mut [u32; DEPTH]) -> Result<(), Refusal>
     requires bound { (1 ≤ list_count l.now) × (list_count l.now ≤ 1048576) }
-    requires ends_len { (length ends.old ≡ 256) × (get_or ends.old 0 0 ≡ list_count l.now) }
+    requires root { get_or ends.old 0 0 ≡ list_count l.now }
     ensures { result ≡ verdict_answer (nest_below l.now) }
 {
     let count = l.len() / TREE_WORDS;
@@ -126,67 +122,56 @@ fn nest_pass(l: &[u32], ends: &mut [u32]) -> Verdict
         let around = end_around(ends, d, count);
         let end = end_of(l, n);
         if around < end {
-            return refused(3, n);
+            return refused(row::NEST, n);
         }
         if DEPTH <= d {
-            return refused(4, n);
+            return refused(row::DEPTH, n);
         }
         ends[d] = end as u32;
         depth = d + 1;
         n = next_subtree(l, n + 1);
     }
-    Verdict::Passed
+    Ok(())
 }
 
 // Rows 3 and 4 below a root that is taken to hold all others, whatever count it has stored.
-fn nest_below(l: &[u32]) -> Verdict
+fn nest_below(l: &[u32]) -> Result<(), Refusal>
     requires { (1 ≤ list_count l.now) × (list_count l.now ≤ 1048576) }
     ensures { result ≡ verdict_answer (nest_below l.now) }
 {
-    let mut ends = [0u32; 256];
+    let mut ends = [0u32; DEPTH];
     ends[0] = (l.len() / TREE_WORDS) as u32;
     nest_pass(l, &mut ends)
 }
 
-fn nest(l: &[u32]) -> Verdict
+// Rows 3 and 4 of a list whose root holds all others, or does not.
+fn nest(l: &[u32], rooted: bool) -> Result<(), Refusal>
     requires { (1 ≤ list_count l.now) × (list_count l.now ≤ 1048576) }
-    ensures { result ≡ verdict_answer (nest_row l.now) }
+    ensures { result ≡ verdict_answer (if rooted then nest_below l.now else refused 3 0) }
 {
-    if !is_rooted(l) {
-        return refused(3, 0);
+    if rooted {
+        nest_below(l)
+    } else {
+        refused(row::NEST, 0)
     }
-    nest_below(l)
-}
-
-// The same where the root, if it is a subtree, is taken to hold all others.
-fn nest_holding(l: &[u32]) -> Verdict
-    requires { (1 ≤ list_count l.now) × (list_count l.now ≤ 1048576) }
-    ensures { result ≡ verdict_answer (nest_row (holding_all l.now)) }
-{
-    if l[0] != 3 {
-        return refused(3, 0);
-    }
-    nest_below(l)
 }
 
 // The first of rows 2 to 4 that a list breaks, at the lowest tree.
-pub fn list_rules(l: &[u32]) -> Verdict
+#[tactic(auto, using(crate::proofs::Returns::rules_cases))]
+pub fn list_rules(l: &[u32]) -> Result<(), Refusal>
     requires { (1 ≤ list_count l.now) × (list_count l.now ≤ 1048576) }
     ensures { result ≡ verdict_answer (list_rules l.now) }
 {
-    match row_two(l) {
-        Verdict::Passed => nest(l),
-        Verdict::Refused(at) => Verdict::Refused(at),
-    }
+    row_two(l)?;
+    nest(l, is_rooted(l))
 }
 
 // The same of a list whose root, where it is a subtree, is taken to hold all others.
-pub fn list_rules_holding(l: &[u32]) -> Verdict
+#[tactic(auto, using(crate::proofs::Returns::held_cases))]
+pub fn list_rules_holding(l: &[u32]) -> Result<(), Refusal>
     requires { (1 ≤ list_count l.now) × (list_count l.now ≤ 1048576) }
     ensures { result ≡ verdict_answer (list_rules (holding_all l.now)) }
 {
-    match row_two(l) {
-        Verdict::Passed => nest_holding(l),
-        Verdict::Refused(at) => Verdict::Refused(at),
-    }
+    row_two(l)?;
+    nest(l, l[0] == SUBTREE)
 }

@@ -9,7 +9,7 @@ use native.Mathlib.Numerals.{add-one}
 use borrow.Author.Tests.{ne_eqb}
 use lib.Dec.{eqb}
 use lib.ListN.{length}
-use Rattle.std.specs.Prelude.{if◌then◌else◌}
+use Rattle.std.specs.Prelude.{Result, Ok, Err, if◌then◌else◌}
 use Rattle.format.specs.Verdict.{passed}
 use Rattle.format.specs.Reader.{Reader, Reply}
 use Rattle.format.specs.Tree.{Raw, tree_at}
@@ -22,9 +22,8 @@ use Rattle.format.proofs.TreeBounds.{Ended, tree_ended}
 use Rattle.format.proofs.Reading.{each_clean}
 use Rattle.tree.specs.Loose.{loose_of}
 use Rattle.decode.specs.Judge.{judged_of}
-use Rattle.decode.specs.declared.judge.JudgedTree.{JudgedTree}
-use Rattle.decode.specs.declared.judge.TreeJudged.{TreeJudged}
-use Rattle.decode.specs.declared.judge.TreeJudged.TheVariants.{Got, Bad}
+use Rattle.tree.specs.declared.raw.RawTree.{RawTree}
+use Rattle.decode.specs.declared.loose.Reported.{Reported}
 use Rattle.decode.proofs.JudgeUse.{told_got, told_bad, told_loose}
 use Rattle.lister.specs.BySizes.{size_loose}
 use Rattle.lister.proofs.Listed.{got_bad}
@@ -126,18 +125,18 @@ module _ (b : List ℕ) (k parts symbols : ℕ) where
           let w = no_more (eqb n 0) s in
           omega arith
 
-      module _ (r : TreeJudged) (e : judged_of r ≡ beside (loose_at b at) (judge (λ n t. t) (count_rules parts symbols) n at (tree_at b at))) where
+      module _ (r : Result (Reported RawTree) ℕ) (e : judged_of r ≡ beside (loose_at b at) (judge (λ n t. t) (count_rules parts symbols) n at (tree_at b at))) where
         abbrev reply : Reply Raw
         reply = judge (λ n t. t) (count_rules parts symbols) n at (tree_at b at)
 
         -- no tree is refused
-        pub counted_bad : (j : ℕ) → r ≡ Bad j → count ≡ size_loose b k parts symbols
+        pub counted_bad : (j : ℕ) → r ≡ Err j → count ≡ size_loose b k parts symbols
         unfolding size_reader
         counted_bad j q =
             let d = told_bad (loose_at b at) reply r e j q in
             got_bad _ _ _ j (sym ((admitted ok).readable n h) ∙ sym (ap (λ x. R.read n x) l.reach) ∙ d)
 
-        pub counted_next : (y : JudgedTree) → r ≡ Got y → (i s m : ℕ) → i ≡ (loose_of y.loose).spans → (s ≡ i) × (s < 4294967296) → m ≡ (if eqb n 0 then 0 else s) → Counted (n + 1) y.next (count + m)
+        pub counted_next : (y : Reported RawTree) → r ≡ Ok y → (i s m : ℕ) → i ≡ (loose_of y.loose).spans → (s ≡ i) × (s < 4294967296) → m ≡ (if eqb n 0 then 0 else s) → Counted (n + 1) y.next (count + m)
         unfolding size_reader
         counted_next y q i s m f₀ f g =
             let d = told_got (loose_at b at) reply r e y q in

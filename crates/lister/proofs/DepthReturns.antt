@@ -8,9 +8,6 @@ use Rattle.format.specs.Nest.{still_open}
 use Rattle.format.proofs.OpenEnds.{open_ends, open_more}
 use Rattle.format.proofs.NestLaw.{still_above, still_below}
 use Rattle.tree.specs.Raw.{raw_of}
-use Rattle.tree.specs.declared.raw.RawPunct.{RawPunct}
-use Rattle.tree.specs.declared.raw.RawIdent.{RawIdent}
-use Rattle.tree.specs.declared.raw.RawLiteral.{RawLiteral}
 use Rattle.tree.specs.declared.raw.RawSubtree.{RawSubtree}
 use Rattle.tree.specs.declared.raw.RawTree.{RawTree}
 use Rattle.tree.specs.declared.raw.RawTree.TheVariants.{Punct, Ident, Literal, Subtree}
@@ -27,13 +24,14 @@ pub close_start : (ends : List ℕ) (depth n : ℕ) → Closing ends depth n dep
 close_start ends depth n = record { fewer = omega arith; alike = refl }
 
 module _ (ends : List ℕ) (depth n : ℕ) where
-  pub close_stop : (left : ℕ) → Closing ends depth n left → 0 < left → n < get_or ends (left - 1) 0 → Closed ends depth n left
+  pub close_stop : (left r : ℕ) → Closing ends depth n left → 0 < left → n < get_or ends (left - 1) 0 → r ≡ left - 1 + 1 → Closed ends depth n r
   unfolding open_ends
-  close_stop zero c h g = absurd (omega arith)
-  close_stop (suc l) c h g =
+  close_stop zero r c h g e = absurd (omega arith)
+  close_stop (suc l) r c h g e =
       let p : suc l - 1 ≡ l = omega arith in
       let g' : n < get_or ends l 0 = rw p at g in
-      record { fewer = c.fewer; left = sym (c.alike ∙ still_above n (get_or ends l 0) (open_ends ends l) g') }
+      let q : r ≡ suc l = omega arith in
+      rw q (record { fewer = c.fewer; left = sym (c.alike ∙ still_above n (get_or ends l 0) (open_ends ends l) g') })
 
   pub close_on : (left : ℕ) → Closing ends depth n left → 0 < left → get_or ends (left - 1) 0 ≤ n → Closing ends depth n (left - 1)
   unfolding open_ends
@@ -44,27 +42,22 @@ module _ (ends : List ℕ) (depth n : ℕ) where
       let f = c.fewer in
       subst (Closing ends depth n) (sym p) (record { fewer = omega arith; alike = c.alike ∙ still_below n (get_or ends l 0) (open_ends ends l) g' })
 
-  pub close_end : (left : ℕ) → Closing ends depth n left → left ≤ 0 → Closed ends depth n left
+  pub close_end : (left : ℕ) → Closing ends depth n left → left ≤ 0 → Closed ends depth n 0
   unfolding open_ends still_open
-  close_end zero c h = record { fewer = c.fewer; left = sym c.alike }
+  close_end zero c h = record { fewer = omega arith; left = sym c.alike }
   close_end (suc l) c h = absurd (omega arith)
 
 pub ruleset close_cases = (close_start, close_stop, close_on, close_end)
 
 -- ---- open_tree
 
-module _ (ends : List ℕ) (depth n : ℕ) (t : RawTree) (o : Opens ends depth n (raw_of t)) where
-  pub push_punct : (p : RawPunct) → t ≡ Punct p → Pushed ends depth n (raw_of t) depth ends
-  unfolding raw_of
-  push_punct p e = record { size = o.size; few = o.few; left = rw e }
-
-  pub push_ident : (p : RawIdent) → t ≡ Ident p → Pushed ends depth n (raw_of t) depth ends
-  unfolding raw_of
-  push_ident p e = record { size = o.size; few = o.few; left = rw e }
-
-  pub push_literal : (p : RawLiteral) → t ≡ Literal p → Pushed ends depth n (raw_of t) depth ends
-  unfolding raw_of
-  push_literal p e = record { size = o.size; few = o.few; left = rw e }
+-- a leaf opens none
+pub push_none : (ends : List ℕ) (depth n : ℕ) (t : RawTree) → Opens ends depth n (raw_of t) → ((p : RawSubtree) → t ≡ Subtree p → ⊥) → Pushed ends depth n (raw_of t) depth ends
+unfolding raw_of
+push_none ends depth n (Punct p) o h = record { size = o.size; few = o.few; left = refl }
+push_none ends depth n (Ident p) o h = record { size = o.size; few = o.few; left = refl }
+push_none ends depth n (Literal p) o h = record { size = o.size; few = o.few; left = refl }
+push_none ends depth n (Subtree p) o h = absurd (h p refl)
 
 module _ (ends : List ℕ) (depth n : ℕ) (p : RawSubtree) where
   is_room : Opens ends depth n (raw_of (Subtree p)) → depth < 256
@@ -98,4 +91,4 @@ module _ (ends : List ℕ) (depth n : ℕ) (p : RawSubtree) where
     pub push_subtree : Pushed ends depth n (raw_of t) (depth + 1) (set ends depth (n + 1 + p.len.0))
     push_subtree = subst (λ (x : RawTree). Pushed ends depth n (raw_of x) (depth + 1) (set ends depth (n + 1 + p.len.0))) (sym e) (is_pushed opens)
 
-pub ruleset push_cases = (push_punct, push_ident, push_literal, push_room, push_end, push_next, push_subtree)
+pub ruleset push_cases = (push_none, push_room, push_end, push_next, push_subtree)

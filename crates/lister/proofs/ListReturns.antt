@@ -7,7 +7,7 @@ use borrow.Author.Tests.{lt-ltb, le-ltb, eq-eqb, ne_eqb}
 use lib.Dec.{eqb}
 use lib.ListN.{length, take, drop}
 use lib.Seq.{length-take-le}
-use Rattle.std.specs.Prelude.{if◌then◌else◌}
+use Rattle.std.specs.Prelude.{if◌then◌else◌, Option, Some, None, Result, Ok, Err, ⊤}
 use Rattle.format.specs.Verdict as format
 use Rattle.format.specs.Tree.{Raw}
 use Rattle.format.specs.Nest.{still_open}
@@ -22,12 +22,8 @@ use Rattle.text.proofs.Typed.{next_inside, typed_then, typed_as, typed_whole}
 use Rattle.tree.specs.Refusal.{verdict_answer}
 use Rattle.tree.proofs.Answers.{answer_passed, answer_refused}
 use Rattle.tree.specs.declared.refusal.Refusal.{Refusal}
-use Rattle.tree.specs.declared.refusal.Verdict.{Verdict}
-use Rattle.tree.specs.declared.refusal.Verdict.TheVariants.{Passed, Refused}
 use Rattle.bundle.specs.Answer.{read_answer}
 use Rattle.bundle.specs.declared.read.Contents.{Contents}
-use Rattle.bundle.specs.declared.read.BundleRead.{BundleRead}
-use Rattle.bundle.specs.declared.read.BundleRead.TheVariants.{Bundle, Bad}
 use Rattle.bundle.proofs.Told.{rest_of, told, is_bad, start_inside}
 use Rattle.lister.specs.BySizes.{sort_of, size_lines, size_loose, size_listing, or_refusal, sizes_text}
 use Rattle.lister.specs.Ends.{Closed, push, Opens, Pushed, Follows}
@@ -81,8 +77,8 @@ pub ruleset loose_cases = (root_none, below_all, counted_none, counted_fits, cou
 
 -- ---- list_buffer
 
-module _ (b : List ℕ) (k p y : ℕ) (z : Verdict) (e : z ≡ verdict_answer (check raw_shape (size_reader b k p y))) where
-  module _ (x : Refusal) (q : z ≡ Refused x) (m t : ℕ) (f : m ≡ x.number) (g : t ≡ x.tree) where
+module _ (b : List ℕ) (k p y : ℕ) (z : Result ⊤ Refusal) (e : z ≡ verdict_answer (check raw_shape (size_reader b k p y))) where
+  module _ (x : Refusal) (q : z ≡ Err x) (m t : ℕ) (f : m ≡ x.number) (g : t ≡ x.tree) where
     refused_is : refusal_line m t ≡ sizes_text b k p y
     unfolding sizes_text
     refused_is =
@@ -95,7 +91,7 @@ module _ (b : List ℕ) (k p y : ℕ) (z : Verdict) (e : z ≡ verdict_answer (c
     pub refused_short : m < 4294967296 → t < 4294967296 → length (sizes_text b k p y) ≤ 327755
     refused_short i j = let l = refusal_few m t i j in let d = ap length refused_is in omega arith
 
-  module _ (q : z ≡ Passed) where
+  module _ (q : z ≡ Ok tt) where
     pub buffer_passes : check raw_shape (size_reader b k p y) ≡ format.passed
     buffer_passes = answer_passed (check raw_shape (size_reader b k p y)) (sym e ∙ q)
 
@@ -130,8 +126,8 @@ module _ (b : List ℕ) where
     pub over_short : length (lister_text b) ≤ 327755
     over_short = subst (λ (x : List ℕ). length x ≤ 327755) over_is one_short
 
-  module _ (h : length b ≤ 65536) (r : BundleRead) (e : r ≡ read_answer b (bundle_at b)) where
-    module _ (q : r ≡ Bad) where
+  module _ (h : length b ≤ 65536) (r : Option Contents) (e : r ≡ read_answer b (bundle_at b)) where
+    module _ (q : r ≡ None) where
       bad_is : refusal_line 1 0 ≡ lister_text b
       bad_is =
           let l = le-ltb 65536 (length b) h in
@@ -144,7 +140,7 @@ module _ (b : List ℕ) where
       pub bad_short : length (lister_text b) ≤ 327755
       bad_short = subst (λ (x : List ℕ). length x ≤ 327755) bad_is one_short
 
-    module _ (x : Contents) (q : r ≡ Bundle x) where
+    module _ (x : Contents) (q : r ≡ Some x) where
       abbrev bytes : List ℕ
       bytes = take (length b - x.start) (drop x.start b)
 

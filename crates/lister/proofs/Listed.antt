@@ -9,6 +9,7 @@ use native.Mathlib.Numerals.{add-one}
 use borrow.Author.Tests.{leb-true}
 use lib.Dec.{leb}
 use lib.ListN.{length, replicate, length-replicate}
+use Rattle.std.specs.Prelude.{Result, Ok, Err}
 use Rattle.format.specs.Verdict.{passed}
 use Rattle.format.specs.Reader.{Shape, Reader, got, bad}
 use Rattle.format.specs.Tree.{Raw, is_subtree, count_of, tree_at}
@@ -27,9 +28,8 @@ use Rattle.text.specs.Typed.{Typed}
 use Rattle.text.proofs.Typed.{kept, next_inside, typed_then, typed_none, typed_as}
 use Rattle.tree.specs.Raw.{raw_of}
 use Rattle.decode.specs.Judge.{judged_of}
-use Rattle.decode.specs.declared.judge.JudgedTree.{JudgedTree}
-use Rattle.decode.specs.declared.judge.TreeJudged.{TreeJudged}
-use Rattle.decode.specs.declared.judge.TreeJudged.TheVariants.{Got, Bad}
+use Rattle.tree.specs.declared.raw.RawTree.{RawTree}
+use Rattle.decode.specs.declared.loose.Reported.{Reported}
 use Rattle.decode.proofs.JudgeUse.{told_got, told_bad}
 use Rattle.lister.specs.BySizes.{sort_of, size_lines}
 use Rattle.lister.specs.Ends.{push, Follows}
@@ -87,7 +87,7 @@ module _ (b : List ℕ) (k parts symbols : ℕ) where
         let e : n ≡ k = omega arith in
         typed_as out₀ out at next _ _ (ap (λ x. tree_lines raw_shape sort_of R x 0) e) l.text
 
-    module _ (ok : check raw_shape R ≡ passed) (h : n < k) (r : TreeJudged)
+    module _ (ok : check raw_shape R ≡ passed) (h : n < k) (r : Result (Reported RawTree) ℕ)
         (e : judged_of r ≡ beside (loose_at b first) (judge (λ n t. t) (count_rules parts symbols) n first (tree_at b first))) where
       admitted : Admitted raw_shape R
       admitted = check_sound raw_shape R ok
@@ -96,13 +96,13 @@ module _ (b : List ℕ) (k parts symbols : ℕ) where
       nested = admitted.nested
 
       -- no tree is refused
-      pub listed_bad : (j : ℕ) → r ≡ Bad j → Typed out₀ at (size_lines b k parts symbols) next out
+      pub listed_bad : (j : ℕ) → r ≡ Err j → Typed out₀ at (size_lines b k parts symbols) next out
       unfolding size_reader
       listed_bad j q =
           let d = told_bad (loose_at b first) _ r e j q in
           got_bad _ _ _ j (sym (admitted.readable n h) ∙ sym (ap (λ x. R.read n x) l.place) ∙ d)
 
-      module _ (y : JudgedTree) (q : r ≡ Got y) where
+      module _ (y : Reported RawTree) (q : r ≡ Ok y) where
         abbrev t : Raw
         t = raw_of y.tree
 

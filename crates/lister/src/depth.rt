@@ -13,14 +13,12 @@ pub(crate) fn still_open(ends: &[u32; MAX_DEPTH], depth: usize, n: u32) -> usize
     requires { depth ≤ 256 }
     ensures { Closed ends.now depth n result }
 {
-    let mut left = depth;
-    while 0 < left {
-        if n < ends[left - 1] {
-            return left;
+    for i in (0..depth).rev() {
+        if n < ends[i] {
+            return i + 1;
         }
-        left = left - 1;
     }
-    left
+    0
 }
 
 // A subtree is opened behind tree n.
@@ -28,14 +26,9 @@ pub(crate) fn open_tree(ends: &mut [u32; MAX_DEPTH], depth: usize, n: u32, tree:
     requires { Opens ends.old depth n (raw_of tree) }
     ensures { Pushed ends.old depth n (raw_of tree) result ends.new }
 {
-    match tree {
-        RawTree::Punct(_) => depth,
-        RawTree::Ident(_) => depth,
-        RawTree::Literal(_) => depth,
-        RawTree::Subtree(p) => {
-            let count = p.len;
-            ends[depth] = n + 1 + count.0;
-            depth + 1
-        }
-    }
+    let RawTree::Subtree(p) = tree else {
+        return depth;
+    };
+    ends[depth] = n + 1 + p.len.0;
+    depth + 1
 }

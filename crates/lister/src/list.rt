@@ -13,11 +13,11 @@ ghost use Rattle.lister.specs.TreePut.{TreePut};
 use crate::depth::{MAX_DEPTH, open_tree, still_open};
 use crate::lines::{put_header, put_line, put_refusal};
 use crate::loose::loose_below;
-use bundle::read::{BundleRead, read_bundle};
+use bundle::read::read_bundle;
 use checker::check::check;
-use decode::judge::{TreeJudged, tree_at};
+use decode::judge::tree_at;
+use pack::row;
 use tree::raw::{RawTree, place};
-use tree::refusal::Verdict;
 
 // The bytes that are taken.
 const MOST: usize = 65536;
@@ -48,7 +48,7 @@ fn put_tree(
     let next = put_line(out, at, place(n), first, around + 1, tree);
     let inside = open_tree(ends, around, n, tree);
     Done {
-        next: next,
+        next,
         depth: inside,
     }
 }
@@ -56,7 +56,7 @@ fn put_tree(
 // The lines of all trees of a buffer that the check has passed.
 fn put_lines(out: &mut [u8], at: usize, b: &[u8], trees: u32, parts: usize, symbols: usize) -> usize
     requires at_in_bounds { at ≤ length out.old }
-    requires symbols_value { checked raw_shape (size_reader b.now trees parts symbols) ≡ passed }
+    requires passes { checked raw_shape (size_reader b.now trees parts symbols) ≡ passed }
     ensures { Typed out.old at (size_lines b.now trees parts symbols)
         result out.new }
 {
@@ -64,19 +64,15 @@ fn put_lines(out: &mut [u8], at: usize, b: &[u8], trees: u32, parts: usize, symb
     let mut depth: usize = 0;
     let mut first: usize = 0;
     let mut next = at;
-    let mut n: u32 = 0;
-    while n < trees {
-        let read = tree_at(b, parts, symbols, n, first);
-        let TreeJudged::Got(here) = read else {
+    for n in 0..trees {
+        let Ok(here) = tree_at(b, parts, symbols, n, first) else {
             // Not in a buffer that the check has passed.
             return next;
         };
-        let tree = here.tree;
-        let done = put_tree(out, next, &mut ends, depth, n, first, tree);
+        let done = put_tree(out, next, &mut ends, depth, n, first, here.tree);
         next = done.next;
         depth = done.depth;
         first = here.next;
-        n = n + 1;
     }
     next
 }
@@ -88,15 +84,9 @@ fn list_buffer(out: &mut [u8], b: &[u8], trees: u32, parts: usize, symbols: usiz
         result out.new }
     ensures fits { length (sizes_text b.now trees parts symbols) ≤ 327755 }
 {
-    let verdict = check(b, trees, parts, symbols);
-    match verdict {
-        Verdict::Refused(refusal) => put_refusal(
-            out,
-            0,
-            place(refusal.number),
-            place(refusal.tree),
-        ),
-        Verdict::Passed => {
+    match check(b, trees, parts, symbols) {
+        Err(refusal) => put_refusal(out, 0, place(refusal.number), place(refusal.tree)),
+        Ok(()) => {
             let loose = loose_below(b, trees, parts, symbols);
             let next = put_header(out, 0, place(trees), b.len(), parts, symbols, loose);
             put_lines(out, next, b, trees, parts, symbols)
@@ -110,16 +100,14 @@ pub(crate) fn list_bundle(out: &mut [u8], b: &[u8]) -> usize
     ensures fits { length (lister_text b.now) ≤ 327755 }
 {
     if MOST < b.len() {
-        return put_refusal(out, 0, 1, 0);
+        return put_refusal(out, 0, row::SIZE as usize, 0);
     }
-    let read = read_bundle(b);
-    let BundleRead::Bundle(contents) = read else {
-        return put_refusal(out, 0, 1, 0);
+    let Some(contents) = read_bundle(b) else {
+        return put_refusal(out, 0, row::SIZE as usize, 0);
     };
-    let start = contents.start;
     list_buffer(
         out,
-        &b[start..],
+        &b[contents.start..],
         contents.trees,
         contents.parts,
         contents.symbols,

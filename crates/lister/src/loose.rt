@@ -6,7 +6,7 @@ ghost use Rattle.format.specs.Check.{check as checked};
 ghost use Rattle.format.specs.Buffer.{raw_shape, size_reader};
 ghost use Rattle.lister.specs.BySizes.{size_loose};
 
-use decode::judge::{TreeJudged, tree_at};
+use decode::judge::tree_at;
 use tree::loose::loose_spans;
 use tree::raw::place;
 
@@ -14,31 +14,24 @@ use tree::raw::place;
 fn below_root(n: u32, spans: usize) -> usize
     ensures { result ≡ (if eqb n 0 then 0 else spans) }
 {
-    if n == 0 {
-        return 0;
-    }
-    spans
+    if n == 0 { 0 } else { spans }
 }
 
 // In a buffer that the check has passed.
 pub(crate) fn loose_below(b: &[u8], trees: u32, parts: usize, symbols: usize) -> usize
-    requires b_len_bound { length b.now ≤ 65536 }
-    requires symbols_value { checked raw_shape (size_reader b.now trees parts symbols) ≡ passed }
+    requires few_bytes { length b.now ≤ 65536 }
+    requires passes { checked raw_shape (size_reader b.now trees parts symbols) ≡ passed }
     ensures { result ≡ size_loose b.now trees parts symbols }
 {
     let mut count: usize = 0;
     let mut at: usize = 0;
-    let mut n: u32 = 0;
-    while n < trees {
-        let read = tree_at(b, parts, symbols, n, at);
-        let TreeJudged::Got(here) = read else {
+    for n in 0..trees {
+        let Ok(here) = tree_at(b, parts, symbols, n, at) else {
             // Not in a buffer that the check has passed.
             return count;
         };
-        let loose = here.loose;
-        count = count + below_root(n, place(loose_spans(loose)));
+        count += below_root(n, place(loose_spans(here.loose)));
         at = here.next;
-        n = n + 1;
     }
     count
 }

@@ -4,6 +4,7 @@ use mathlib.Core.Path.{◌≡◌, sym, ap, ◌∙◌}
 use mathlib.Core.List.{List}
 use native.Mathlib.Omega.{arith}
 use lib.ListN.{get_or}
+use Rattle.std.specs.Prelude.{Some, None, Ok, Err}
 use Rattle.format.specs.Width.{open_at, close_at}
 use Rattle.format.specs.Part.{span_from}
 use Rattle.format.specs.Reader.{Reader, Answer, none, one, refused}
@@ -18,7 +19,6 @@ use Rattle.tree.specs.declared.types.TokenTree.{TokenTree}
 use Rattle.walk.specs.Source.{answer_words}
 use Rattle.walk.specs.Walk.{walk_of, answer_of, Stepped}
 use Rattle.walk.specs.declared.walk.Walk.{Walk}
-use Rattle.walk.specs.declared.walk.Answer.TheVariants as answers
 use Rattle.walk.specs.declared.walk.Step.{Step}
 use Rattle.measure.specs.Sum.{plus, refused_code, went, walk_sum}
 
@@ -27,8 +27,6 @@ pub added_is : (s : ℕ) (t : TokenTree) (w : List ℕ) → w ≡ tree_words_of 
     → (s % 4294967296 + x + y + z) % 4294967296 ≡ plus s (tree_words_of t)
 unfolding plus
 added_is s t w e x y z f g h = rw (f, g, h, e)
-
-pub ruleset added_cases = (added_is)
 
 -- ---- walks
 
@@ -53,15 +51,15 @@ module _ (b parts symbols : List ℕ) (k : ℕ) (call : WalkCall) (w : Walk) (s 
         ∙ ap (λ (a : Answer (List ℕ)). went (walk_sum (own_reader b k parts symbols) call (k - (n + 1))) s (walk_step word_shape (own_reader b k parts symbols) call (walk_of w)).1 a) d₀
         ∙ ap (λ (v : steps.Walk). went (walk_sum (own_reader b k parts symbols) call (k - (n + 1))) s v a) d₁
 
-    pub sum_none : r.answer ≡ answers.None → s ≡ total
+    pub sum_none : r.answer ≡ Ok None → s ≡ total
     unfolding answer_words answer_of
     sum_none q = sym (stepped none (rw q))
 
-    pub sum_refused : (f : Refusal) → r.answer ≡ answers.Refused f → (x : ℕ) → x ≡ refused_code f.number → x ≡ total
+    pub sum_refused : (f : Refusal) → r.answer ≡ Err f → (x : ℕ) → x ≡ refused_code f.number → x ≡ total
     unfolding answer_words answer_of
     sum_refused f q x g = g ∙ sym (stepped (refused f.number f.tree) (rw q))
 
-    pub sum_on : (t : ReportedTree) → r.answer ≡ answers.Tree t → (x : ℕ) → x ≡ plus s (tree_words_of t.tree)
+    pub sum_on : (t : ReportedTree) → r.answer ≡ Ok (Some t) → (x : ℕ) → x ≡ plus s (tree_words_of t.tree)
         → total ≡ walk_sum (own_reader b k parts symbols) call (k - (n + 1)) (walk_of r.walk) x
     unfolding answer_words answer_of
     sum_on t q x g = stepped (one (tree_words_of t.tree)) (rw q) ∙ ap (walk_sum (own_reader b k parts symbols) call (k - (n + 1)) (walk_of r.walk)) (sym g)

@@ -1,5 +1,5 @@
 -- The list words of the trees that a walk or a cursor hands back, added up.
-use Rattle.std.specs.Prelude.{ℕ, zero, suc, ◌+◌, ◌%◌, Bool, true, false, ◌&&◌, List, [], ◌∷◌, leb, get_or, if◌then◌else◌}
+use Rattle.std.specs.Prelude.{ℕ, zero, suc, ◌+◌, ◌%◌, Bool, true, false, ◌&&◌, List, [], ◌∷◌, leb, get_or, Result, Ok, Err, if◌then◌else◌}
 use Rattle.format.specs.Width.{open_at, close_at}
 use Rattle.format.specs.Part.{span_from}
 use Rattle.format.specs.Reader.{Reader, Answer, done, none, one, two, refused}
@@ -7,7 +7,6 @@ use Rattle.format.specs.Walk.{Walk, WalkCall, walk_step}
 use Rattle.format.specs.Cursor.{Open, Cursor, token_tree, bump_or_end, cursor_step}
 use Rattle.format.specs.Buffer.{word_shape}
 use Rattle.tree.specs.Plain.{span_sum}
-use Rattle.measure.specs.declared.cursors.Round.{Round}
 
 -- the sum and a tree's words
 unfoldable pub plus : ℕ → List ℕ → ℕ
@@ -36,14 +35,11 @@ walk_sum R call (suc m) w s = went (walk_sum R call m) s (walk_step word_shape R
 
 -- ---- cursors, `token_tree` and `bump_or_end` in turn
 
-abbrev pub ends : ℕ → Round
-ends s = record { ended = true; sum = s }
+-- the sum so far, or what the loop answers
 
-abbrev pub goes_on : ℕ → Round
-goes_on s = record { ended = false; sum = s }
-
-abbrev pub and_then : Round → (ℕ → ℕ) → ℕ
-and_then r rest = if r.ended then r.sum else rest r.sum
+abbrev pub and_then : Result ℕ ℕ → (ℕ → ℕ) → ℕ
+and_then (Ok s) rest = rest s
+and_then (Err s) rest = s
 
 abbrev pub none_open : List Open → Bool
 none_open [] = true
@@ -54,23 +50,23 @@ abbrev pub over : ℕ → Cursor → Bool
 over k c = leb k c.number && none_open c.opened
 
 -- what `token_tree` answers
-abbrev pub told : ℕ → Answer (List ℕ) → Round
-told s (one t) = goes_on (plus s t)
-told s none = goes_on s
-told s done = goes_on s
-told s (two t u) = goes_on s
-told s (refused r n) = ends (refused_code r)
+abbrev pub told : ℕ → Answer (List ℕ) → Result ℕ ℕ
+told s (one t) = Ok (plus s t)
+told s none = Ok s
+told s done = Ok s
+told s (two t u) = Ok s
+told s (refused r n) = Err (refused_code r)
 
 -- what `bump_or_end` answers
-unfoldable pub moved : ℕ → Answer (List ℕ) → Round
-moved s (one t) = goes_on s
-moved s none = goes_on s
-moved s done = goes_on s
-moved s (two t u) = goes_on s
-moved s (refused r n) = ends (refused_code r)
+unfoldable pub moved : ℕ → Answer (List ℕ) → Result ℕ ℕ
+moved s (one t) = Ok s
+moved s none = Ok s
+moved s done = Ok s
+moved s (two t u) = Ok s
+moved s (refused r n) = Err (refused_code r)
 
-unfoldable pub looked : Reader (List ℕ) → ℕ → Cursor → ℕ → Round
-looked R k c s = if over k c then ends s else told s (cursor_step word_shape R token_tree c).0
+unfoldable pub looked : Reader (List ℕ) → ℕ → Cursor → ℕ → Result ℕ ℕ
+looked R k c s = if over k c then Err s else told s (cursor_step word_shape R token_tree c).0
 
 -- a cursor over k trees, at most so many rounds
 unfoldable pub cursor_sum : Reader (List ℕ) → ℕ → ℕ → Cursor → ℕ → ℕ

@@ -21,7 +21,7 @@ const OPEN_CONTEXT: usize = OPEN_AT + 2;
 fn head_sum(sort: u32, first: u32, second: u32) -> u64
     ensures { (result ≡ sort + first + second) × (result < open_at * 4294967296) }
 {
-    sort as u64 + first as u64 + second as u64
+    u64::from(sort) + u64::from(first) + u64::from(second)
 }
 
 fn span_sum(file: u32, ast: u32, context: u32, start: u32, len: u32) -> u64
@@ -29,10 +29,11 @@ fn span_sum(file: u32, ast: u32, context: u32, start: u32, len: u32) -> u64
         (record { part = record { file = file; ast = ast; context = context }; start = start; len = len }))
         × (result < span_size * 4294967296) }
 {
-    file as u64 + ast as u64 + context as u64 + start as u64 + len as u64
+    u64::from(file) + u64::from(ast) + u64::from(context) + u64::from(start) + u64::from(len)
 }
 
 // Modulo 2^32, so that a sum fits whatever is added.
+#[tactic(auto, using(crate::proofs::SumReturns::added_is))]
 pub(crate) fn added(sum: u64, tree: TokenTree) -> u64
     ensures { (result ≡ plus sum (tree_words_of tree)) × (result < 4294967296) }
 {
@@ -59,5 +60,5 @@ pub(crate) fn added(sum: u64, tree: TokenTree) -> u64
 pub(crate) fn refused_code(number: u32) -> u64
     ensures { result ≡ refused_code number }
 {
-    9223372036854775808 + number as u64
+    9223372036854775808 + u64::from(number)
 }

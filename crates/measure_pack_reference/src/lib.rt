@@ -3,7 +3,7 @@
 
 ghost use Rattle.reference.specs.Lists.{AllPacked};
 
-use reference::lists::pack_all_by_form;
+use reference::lists::{ByForm, pack_all};
 
 // The bytes written, or 2^63 and a refusal's number.
 #[unsafe(no_mangle)]
@@ -16,5 +16,5 @@ pub extern "C" fn tt_pack_all_by_form(
 ) -> u64
     ensures { AllPacked out.old at spans.now extra heavy result out.new }
 {
-    pack_all_by_form(out, at, spans, extra, heavy)
+    pack_all::<ByForm>(out, at, spans, extra, heavy)
 }

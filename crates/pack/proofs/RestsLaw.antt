@@ -1,8 +1,8 @@
 -- What the first word of a span leaves of its three numbers tells the form: nothing, or what a second word holds.
 use Prim.Native.Nat.{ℕ, ◌+◌, ◌*◌, ◌-◌, ◌/◌, ◌%◌, ◌<◌, ◌≤◌}
-use mathlib.Core.Bool.{Bool, true, false, ◌&&◌}
+use mathlib.Core.Bool.{Bool, true, ◌&&◌}
 use mathlib.Core.Path.{◌≡◌, sym, ◌∙◌}
-use mathlib.Core.Logic.{◌⊎◌, inl, inr, ⊎_elim}
+use mathlib.Core.Logic.{⊎_elim}
 use native.Mathlib.Omega.{arith}
 use borrow.Author.Tests.{lt-ltb, le-ltb, ltb-true}
 use lib.Dec.{ltb}
@@ -11,7 +11,6 @@ use Rattle.format.specs.Write.{first_word, second_word, heavy_second, heavy_thir
 use Rattle.format.proofs.Each.{and₃}
 use Rattle.format.proofs.Tally.{lt_or_le}
 use Rattle.pack.specs.Answer.{all_below}
-use Rattle.pack.proofs.SpanReturns.{above_1, above_2, above_3, below}
 
 -- two tests that come out alike
 same_test : (a m b n : ℕ) → (a < m → b < n) → (m ≤ a → n ≤ b) → ltb a m ≡ ltb b n
@@ -53,12 +52,6 @@ start_rest a i e = same_test a 134217728 i 134217728 (λ h. omega arith) (λ h. 
 len_rest : (a i : ℕ) → i ≡ a - a % 256 → ltb a 262144 ≡ ltb i 262144
 len_rest a i e = same_test a 262144 i 262144 (λ h. omega arith) (λ h. omega arith)
 
-start_rest_most : (a i : ℕ) → i ≡ a - a % 131072 → i < 134217728 → i + 131072 ≤ 134217728
-start_rest_most a i e h = omega arith
-
-len_rest_most : (a i : ℕ) → i ≡ a - a % 256 → i < 262144 → i + 256 ≤ 262144
-len_rest_most a i e h = omega arith
-
 pub start_rest_fits : (a i : ℕ) → i ≡ a - a % 131072 → a < 4294967296 → i + 131072 ≤ 4294967296
 start_rest_fits a i e h = omega arith
 
@@ -77,11 +70,6 @@ module _ (s : Span) (i t l : ℕ) (e : i ≡ s.index - s.index % 16) (f : t ≡ 
   pub rests_extended : all_below s 32768 134217728 262144 ≡ (ltb i 32768 && ltb t 134217728 && ltb l 262144)
   rests_extended = rw (index_rest s.index i e, start_rest s.start t f, len_rest s.len l g)
 
-  pub rests_below : (y : Bool) → y ≡ (ltb i 32768 && ltb t 134217728 && ltb l 262144) → y ≡ true → (i < 32768) × (t + 131072 ≤ 134217728) × (l + 256 ≤ 262144)
-  rests_below y h k =
-      let m = and₃ (ltb i 32768) (ltb t 134217728) (ltb l 262144) (sym h ∙ k) in
-      (ltb-true _ _ m.0, start_rest_most s.start t f (ltb-true _ _ m.1), len_rest_most s.len l g (ltb-true _ _ m.2))
-
   pub rests_second : (v : ℕ) → v ≡ i / 8 + 16 * l + 32 * t → v ≡ second_word s
   rests_second v h = omega arith
 
@@ -90,33 +78,3 @@ module _ (s : Span) (i t l : ℕ) (e : i ≡ s.index - s.index % 16) (f : t ≡ 
 
   pub rests_heavy_third : (u : ℕ) → u ≡ i / 16 + 65536 * (l % 65536) → u ≡ heavy_third s
   rests_heavy_third u h = omega arith
-
--- ---- one law for each return of `are_none` and `fit_second_word`
-
-module _ (s : Span) where
-  pub some_left : 0 < s.index + s.start + s.len → false ≡ all_below s 1 1 1
-  some_left h = go (lt_or_le s.index 1) (lt_or_le s.start 1)
-    where
-      go : (s.index < 1) ⊎ (1 ≤ s.index) → (s.start < 1) ⊎ (1 ≤ s.start) → false ≡ all_below s 1 1 1
-      go (inr i) t = above_1 s 1 1 1 i
-      go (inl i) (inr t) = above_2 s 1 1 1 i t
-      go (inl i) (inl t) = above_3 s 1 1 1 i t (omega arith)
-
-  pub none_left : s.index + s.start + s.len ≤ 0 → true ≡ all_below s 1 1 1
-  none_left h = below s 1 1 1 (omega arith) (omega arith) (omega arith)
-
-  pub index_past : 32768 ≤ s.index → false ≡ all_below s 32768 134217728 262144
-  index_past h = above_1 s 32768 134217728 262144 h
-
-  module _ (g : s.index < 32768) where
-    pub some_past : 0 < s.start - s.start % 134217728 + (s.len - s.len % 262144) → false ≡ all_below s 32768 134217728 262144
-    some_past h = go (lt_or_le s.start 134217728)
-      where
-        go : (s.start < 134217728) ⊎ (134217728 ≤ s.start) → false ≡ all_below s 32768 134217728 262144
-        go (inl k) = above_3 s 32768 134217728 262144 g k (omega arith)
-        go (inr k) = above_2 s 32768 134217728 262144 g k
-
-    pub none_past : s.start - s.start % 134217728 + (s.len - s.len % 262144) ≤ 0 → true ≡ all_below s 32768 134217728 262144
-    none_past h = below s 32768 134217728 262144 g (omega arith) (omega arith)
-
-pub ruleset rests_cases = (some_left, none_left, index_past, some_past, none_past)

@@ -1,53 +1,38 @@
--- One law for each return of `all_below`, `span_at`, `is_loose`, `decode_span`, with premises as the code's tests and calls give them.
-use Prim.Native.Nat.{ℕ, ◌+◌, ◌-◌, ◌/◌, ◌%◌, ◌<◌, ◌≤◌}
+-- One law for each return of `span_at`, `is_loose`, `decode_span`, with premises as the code's tests and calls give them.
+use Prim.Native.Nat.{ℕ, ◌+◌, ◌*◌, ◌-◌, ◌/◌, ◌%◌, ◌<◌, ◌≤◌}
 use mathlib.Core.Bool.{Bool, true, false}
 use mathlib.Core.Path.{◌≡◌, sym, ap, ◌∙◌}
 use mathlib.Core.List.{List}
 use native.Mathlib.Omega.{arith}
+use native.Mathlib.Nat.{add-zero}
 use borrow.Author.Tests.{lt-ltb, le-ltb, le-leb, lt-leb, eq-eqb, ne_eqb}
 use lib.Dec.{ltb}
 use lib.ListN.{length}
+use Rattle.std.specs.Prelude.{Option, Some, None}
 use Rattle.format.specs.Word.{word_at}
-use Rattle.format.specs.Span.{Span, span_at, span₁, span₂, span₃}
+use Rattle.format.specs.Span.{Span, span_at, span₁}
 use Rattle.format.specs.Write.{span_bytes}
 use Rattle.format.specs.Pack.{span_form}
-use Rattle.pack.specs.Answer.{span_of, span_answer, decoded_answer, span_here, all_below}
+use Rattle.pack.specs.Answer.{span_of, span_answer, decoded_answer, span_here, span_above}
 use Rattle.pack.specs.declared.span.SpanAt.{SpanAt}
-use Rattle.pack.specs.declared.span.SpanRead.{SpanRead}
-use Rattle.pack.specs.declared.span.SpanRead.TheVariants as spans
-use Rattle.pack.specs.declared.span.SpanRead.TheVariants.{Read, Short}
-use Rattle.pack.specs.declared.span.SpanDecoded.TheVariants as decodeds
 use Rattle.pack.proofs.Sizes.{form_least}
 use Rattle.pack.proofs.Use.{span_cut, span_read, span_before, span_loose}
 
-module _ (s : Span) (i t l : ℕ) where
-  pub above_1 : i ≤ s.index → false ≡ all_below s i t l
-  above_1 h = simp (le-ltb s.index i h)
-
-  pub above_2 : s.index < i → t ≤ s.start → false ≡ all_below s i t l
-  above_2 g h = simp (lt-ltb s.index i g, le-ltb s.start t h)
-
-  module _ (g : s.index < i) (h : s.start < t) where
-    pub above_3 : l ≤ s.len → false ≡ all_below s i t l
-    above_3 k = simp (lt-ltb s.index i g, lt-ltb s.start t h, le-ltb s.len l k)
-
-    pub below : s.len < l → true ≡ all_below s i t l
-    below k = simp (lt-ltb s.index i g, lt-ltb s.start t h, lt-ltb s.len l k)
-
-pub ruleset all_below_cases = (above_1, above_2, above_3, below)
+above_none : (w : ℕ) → span_above w (record { index = 0; start = 0; len = 0 }) ≡ span₁ w
+above_none w = simp add-zero
 
 module _ (b : List ℕ) (at r : ℕ) (e : r ≡ length b - at) where
-  pub short_1 : r < 4 → Short ≡ span_answer (span_at b at)
+  pub short_1 : r < 4 → None ≡ span_answer (span_at b at)
   unfolding span_answer span_at
   short_1 h = let k : length b < at + 4 = omega arith in simp (lt-leb _ _ k)
 
   module _ (w : ℕ) (e₁ : w ≡ word_at b at) where
-    pub got_1 : (y : SpanAt) → y ≡ span_here w (span₁ w) (at + 4) → 4 ≤ r → w / 16384 % 2 ≡ 0 → Read y ≡ span_answer (span_at b at)
+    pub got_1 : (y : SpanAt) → y ≡ span_here w (span_above w (record { index = 0; start = 0; len = 0 })) (at + 4) → 4 ≤ r → w / 16384 % 2 ≡ 0 → Some y ≡ span_answer (span_at b at)
     unfolding span_answer span_at
-    got_1 y q h z = let k : at + 4 ≤ length b = omega arith in simp (q, le-leb _ _ k, ← e₁, eq-eqb _ _ z)
+    got_1 y q h z = let k : at + 4 ≤ length b = omega arith in simp (q ∙ ap (λ (t : Span). span_here w t (at + 4)) (above_none w), le-leb _ _ k, ← e₁, eq-eqb _ _ z)
 
     module _ (x : w / 16384 % 2 ≡ 0 → ⊥) where
-      pub short_2 : 4 ≤ r → r < 8 → Short ≡ span_answer (span_at b at)
+      pub short_2 : 4 ≤ r → r < 8 → None ≡ span_answer (span_at b at)
       unfolding span_answer span_at
       short_2 h j =
           let k : at + 4 ≤ length b = omega arith in
@@ -55,7 +40,7 @@ module _ (b : List ℕ) (at r : ℕ) (e : r ≡ length b - at) where
           simp (le-leb _ _ k, ← e₁, ne_eqb _ _ x, lt-leb _ _ k₂)
 
       module _ (v : ℕ) (e₂ : v ≡ word_at b (at + 4)) (h : 8 ≤ r) where
-        pub got_2 : (y : SpanAt) → y ≡ span_here w (span₂ w v) (at + 8) → v % 2 ≡ 0 → Read y ≡ span_answer (span_at b at)
+        pub got_2 : (y : SpanAt) → y ≡ span_here w (span_above w (record { index = v / 2 % 2048; start = v / 4194304; len = v / 4096 % 1024 })) (at + 8) → v % 2 ≡ 0 → Some y ≡ span_answer (span_at b at)
         unfolding span_answer span_at
         got_2 y q z =
             let k : at + 4 ≤ length b = omega arith in
@@ -63,7 +48,7 @@ module _ (b : List ℕ) (at r : ℕ) (e : r ≡ length b - at) where
             simp (q, le-leb _ _ k, ← e₁, ne_eqb _ _ x, le-leb _ _ k₂, ← e₂, eq-eqb _ _ z)
 
         module _ (z : v % 2 ≡ 0 → ⊥) where
-          pub short_3 : r < 12 → Short ≡ span_answer (span_at b at)
+          pub short_3 : r < 12 → None ≡ span_answer (span_at b at)
           unfolding span_answer span_at
           short_3 j =
               let k : at + 4 ≤ length b = omega arith in
@@ -71,7 +56,7 @@ module _ (b : List ℕ) (at r : ℕ) (e : r ≡ length b - at) where
               let k₃ : length b < at + 12 = omega arith in
               simp (le-leb _ _ k, ← e₁, ne_eqb _ _ x, le-leb _ _ k₂, ← e₂, ne_eqb _ _ z, lt-leb _ _ k₃)
 
-          pub got_3 : (u : ℕ) → u ≡ word_at b (at + 8) → (y : SpanAt) → y ≡ span_here w (span₃ w v u) (at + 12) → 12 ≤ r → Read y ≡ span_answer (span_at b at)
+          pub got_3 : (u : ℕ) → u ≡ word_at b (at + 8) → (y : SpanAt) → y ≡ span_here w (span_above w (record { index = u % 16777216; start = v / 131072; len = u / 16777216 + 256 * (v / 2 % 65536) })) (at + 12) → 12 ≤ r → Some y ≡ span_answer (span_at b at)
           unfolding span_answer span_at
           got_3 u e₃ y q j =
               let k : at + 4 ≤ length b = omega arith in
@@ -94,17 +79,17 @@ module _ (s : Span) (n : ℕ) where
     pub loose_over : z < n → true ≡ ltb (length (span_bytes 0 s)) n
     loose_over h = sym (lt-ltb (length (span_bytes 0 s)) n (omega arith))
 
-module _ (b : List ℕ) (at : ℕ) (r : SpanRead) (e : r ≡ span_answer (span_at b at)) where
-  pub decoded_short : r ≡ spans.Short → decodeds.Short ≡ decoded_answer at (span_at b at)
+module _ (b : List ℕ) (at : ℕ) (r : Option SpanAt) (e : r ≡ span_answer (span_at b at)) where
+  pub decoded_short : r ≡ None → None ≡ decoded_answer at (span_at b at)
   unfolding decoded_answer
   decoded_short k = sym (ap (decoded_answer at) (span_cut b at r e k))
 
-  module _ (y : SpanAt) (k : r ≡ spans.Read y) where
+  module _ (y : SpanAt) (k : r ≡ Some y) where
     pub decoded_read : (x : Bool) → x ≡ ltb (length (span_bytes 0 (span_of y.span))) (y.next - at)
-        → decodeds.Read (record { span = y.span; extra = y.extra; next = y.next; loose = x }) ≡ decoded_answer at (span_at b at)
+        → Some (record { span = y.span; extra = y.extra; next = y.next; loose = x }) ≡ decoded_answer at (span_at b at)
     unfolding decoded_answer
     decoded_read x f =
-        ap (λ (u : Bool). decodeds.Read (record { span = y.span; extra = y.extra; next = y.next; loose = u })) (span_loose b at r e y k x f)
+        ap (λ (u : Bool). Some (record { span = y.span; extra = y.extra; next = y.next; loose = u })) (span_loose b at r e y k x f)
         ∙ sym (ap (decoded_answer at) (span_read b at r e y k))
 
 pub ruleset decode_span_cases = (loose_least, loose_fits, loose_over, decoded_short, span_before, decoded_read)

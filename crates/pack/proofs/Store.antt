@@ -1,33 +1,37 @@
 -- Stores of bytes as `put`, and runs of bytes put one behind the other.
-use Prim.Native.Nat.{ℕ, suc, ◌+◌, ◌≤◌}
+use Prim.Native.Nat.{ℕ, ◌+◌, ◌-◌, ◌/◌, ◌%◌, ◌<◌, ◌≤◌}
 use mathlib.Core.Path.{◌≡◌, sym, ap, ◌∙◌}
 use mathlib.Core.List.{List, [], ◌∷◌, ◌++◌, append_assoc, append-nil}
 use native.Mathlib.Omega.{arith}
 use native.Mathlib.Nat.{add-zero}
 use native.Mathlib.Numerals.{add-one}
+use borrow.Rule.Slice.PartMut.{put_mid, post_of, Post-is}
 use lib.ListN.{length, set, take, drop, length-append, length-take, take-append-drop}
 use lib.Seq.{sets-eq, take_at, drop_at, drop-drop}
-use Rattle.format.specs.Word.{put}
+use Rattle.std.specs.Int.{w16, w32, to_le_bytes}
+use Rattle.format.specs.Word.{half_bytes, word_bytes, put}
 
-add_two : (n : ℕ) → n + 2 ≡ suc (suc n)
-add_two n = omega arith
-
-add_three : (n : ℕ) → n + 3 ≡ suc (suc (suc n))
-add_three n = omega arith
-
-pub store_1 : (b : List ℕ) (at a₀ : ℕ) → at + 1 ≤ length b → set b at a₀ ≡ put b at (a₀ ∷ [])
+pub store_1 : (b : List ℕ) (at x : ℕ) → at + 1 ≤ length b → set b at x ≡ put b at (x ∷ [])
 unfolding put
-store_1 b at a₀ h = sets-eq (a₀ ∷ []) b at h
+store_1 b at x h = sets-eq (x ∷ []) b at h
 
-pub store_2 : (b : List ℕ) (at a₀ a₁ : ℕ) → at + 2 ≤ length b → set (set b at a₀) (at + 1) a₁ ≡ put b at (a₀ ∷ a₁ ∷ [])
+pub store_2 : (b : List ℕ) (at x y : ℕ) → at + 2 ≤ length b → set (set b at x) (at + 1) y ≡ put b at (x ∷ y ∷ [])
 unfolding put
-store_2 b at a₀ a₁ h = rw add-one (sets-eq (a₀ ∷ a₁ ∷ []) b at h)
+store_2 b at x y h = rw add-one (sets-eq (x ∷ y ∷ []) b at h)
 
-pub store_4 : (b : List ℕ) (at a₀ a₁ a₂ a₃ : ℕ) → at + 4 ≤ length b → set (set (set (set b at a₀) (at + 1) a₁) (at + 2) a₂) (at + 3) a₃ ≡ put b at (a₀ ∷ a₁ ∷ a₂ ∷ a₃ ∷ [])
+-- what `copy_from_slice` leaves
+pub store_bytes : (b : List ℕ) (at n : ℕ) (us vs : List ℕ) → us ≡ vs → length vs ≡ n → put_mid at (at + n - at) b us ≡ put b at vs
 unfolding put
-store_4 b at a₀ a₁ a₂ a₃ h = rw (add-one, add_two, add_three) (sets-eq (a₀ ∷ a₁ ∷ a₂ ∷ a₃ ∷ []) b at h)
+store_bytes b at n us vs e l =
+    let p : post_of at (at + n - at) b ≡ drop (at + length vs) b = Post-is at (at + n) b (omega arith) ∙ ap (λ (j : ℕ). drop (at + j) b) (sym l) in
+    rw (e, p, append_assoc (take at b) vs (drop (at + length vs) b))
 
-pub ruleset store_cases = (store_1, store_2, store_4)
+-- the last byte needs no remainder
+pub half_le : (w : ℕ) → w < 65536 → to_le_bytes w16 w ≡ half_bytes w
+half_le w h = let e : w / 256 % 256 ≡ w / 256 = omega arith in rw e
+
+pub word_le : (w : ℕ) → w < 4294967296 → to_le_bytes w32 w ≡ word_bytes w
+word_le w h = let e : w / 16777216 % 256 ≡ w / 16777216 = omega arith in rw e
 
 -- two runs, the second behind the first, are one
 pub put_put : (b : List ℕ) (at n : ℕ) (vs ws : List ℕ) → length vs ≡ n → at + n + length ws ≤ length b → put (put b at vs) (at + n) ws ≡ put b at (vs ++ ws)

@@ -5,26 +5,26 @@ use mathlib.Core.List.{List, [], ◌∷◌}
 use native.Mathlib.Omega.{arith}
 use borrow.Author.Tests.{lt-ltb, le-ltb, le-leb, lt-leb, eq-eqb, ne_eqb}
 use lib.ListN.{length}
+use Rattle.std.specs.Prelude.{Some, None}
 use Rattle.format.specs.Word.{byte_at, half_at, half_bytes, put}
 use Rattle.format.specs.Span.{symbol_at}
 use Rattle.format.specs.Write.{symbol_bytes}
 use Rattle.pack.specs.Answer.{symbol_answer}
-use Rattle.pack.specs.declared.symbol.SymbolRead.TheVariants.{Read, Short}
 use Rattle.pack.proofs.Store.{put_put}
 use Rattle.pack.proofs.Sizes.{symbol_least, two_least, two_byte_size, four_byte_size}
 
 module _ (b : List ℕ) (at r : ℕ) (e : r ≡ length b - at) where
-  pub short_1 : r < 1 → Short ≡ symbol_answer (symbol_at b at)
+  pub short_1 : r < 1 → None ≡ symbol_answer (symbol_at b at)
   unfolding symbol_answer symbol_at
   short_1 h = let k : length b < at + 1 = omega arith in simp (lt-leb _ _ k)
 
   module _ (x : ℕ) (e₁ : x ≡ byte_at b at) (h₁ : 1 ≤ r) where
-    pub got_1 : x / 2 % 2 ≡ 0 → Read (record { index = x / 4; tag = x % 2; next = at + 1 }) ≡ symbol_answer (symbol_at b at)
+    pub got_1 : x / 2 % 2 ≡ 0 → Some (record { index = x / 4; tag = x % 2; next = at + 1 }) ≡ symbol_answer (symbol_at b at)
     unfolding symbol_answer symbol_at
     got_1 z = let k : at + 1 ≤ length b = omega arith in simp (le-leb _ _ k, ← e₁, eq-eqb _ _ z)
 
     module _ (n : x / 2 % 2 ≡ 0 → ⊥) where
-      pub short_2 : r < 2 → Short ≡ symbol_answer (symbol_at b at)
+      pub short_2 : r < 2 → None ≡ symbol_answer (symbol_at b at)
       unfolding symbol_answer symbol_at
       short_2 j =
           let k : at + 1 ≤ length b = omega arith in
@@ -32,7 +32,7 @@ module _ (b : List ℕ) (at r : ℕ) (e : r ≡ length b - at) where
           simp (le-leb _ _ k, ← e₁, ne_eqb _ _ n, lt-leb _ _ k₂)
 
       module _ (y : ℕ) (e₂ : y ≡ byte_at b (at + 1)) (h₂ : 2 ≤ r) where
-        pub got_2 : y % 2 ≡ 0 → Read (record { index = x / 4 + 64 * (y / 2); tag = x % 2; next = at + 2 }) ≡ symbol_answer (symbol_at b at)
+        pub got_2 : y % 2 ≡ 0 → Some (record { index = x / 4 + 64 * (y / 2); tag = x % 2; next = at + 2 }) ≡ symbol_answer (symbol_at b at)
         unfolding symbol_answer symbol_at
         got_2 z =
             let k : at + 1 ≤ length b = omega arith in
@@ -40,7 +40,7 @@ module _ (b : List ℕ) (at r : ℕ) (e : r ≡ length b - at) where
             simp (le-leb _ _ k, ← e₁, ne_eqb _ _ n, le-leb _ _ k₂, ← e₂, eq-eqb _ _ z)
 
         module _ (m : y % 2 ≡ 0 → ⊥) where
-          pub short_4 : r < 4 → Short ≡ symbol_answer (symbol_at b at)
+          pub short_4 : r < 4 → None ≡ symbol_answer (symbol_at b at)
           unfolding symbol_answer symbol_at
           short_4 j =
               let k : at + 1 ≤ length b = omega arith in
@@ -48,7 +48,7 @@ module _ (b : List ℕ) (at r : ℕ) (e : r ≡ length b - at) where
               let k₃ : length b < at + 4 = omega arith in
               simp (le-leb _ _ k, ← e₁, ne_eqb _ _ n, le-leb _ _ k₂, ← e₂, ne_eqb _ _ m, lt-leb _ _ k₃)
 
-          pub got_4 : (z : ℕ) → z ≡ half_at b (at + 2) → 4 ≤ r → Read (record { index = x / 4 + 64 * (y / 2) + 8192 * z; tag = x % 2; next = at + 4 }) ≡ symbol_answer (symbol_at b at)
+          pub got_4 : (z : ℕ) → z ≡ half_at b (at + 2) → 4 ≤ r → Some (record { index = x / 4 + 64 * (y / 2) + 8192 * z; tag = x % 2; next = at + 4 }) ≡ symbol_answer (symbol_at b at)
           unfolding symbol_answer symbol_at
           got_4 z e₃ j =
               let k : at + 1 ≤ length b = omega arith in

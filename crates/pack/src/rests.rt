@@ -3,21 +3,7 @@
 ghost use Rattle.std.specs.Prelude.{◌≡◌, ◌+◌, ◌*◌, ◌-◌, ◌/◌, ◌%◌, ◌≤◌, ◌<◌};
 ghost use Rattle.pack.specs.Answer.{span_of, all_below};
 
-use crate::span::PackedSpan;
-
-// The first word takes a number modulo these,
-const FIRST_INDEX: u32 = 16;
-
-const FIRST_START: u32 = 131072;
-
-const FIRST_LEN: u32 = 256;
-
-// and the first two words modulo these.
-const BOTH_INDEX: u32 = 32768;
-
-const BOTH_START: u32 = 134217728;
-
-const BOTH_LEN: u32 = 262144;
+use crate::span::{ONE_WORD, PackedSpan, TWO_WORDS};
 
 // The rests are not divided down: so a mask makes them, and they are tested without a shift.
 pub(crate) fn rests_of(span: PackedSpan) -> PackedSpan
@@ -25,9 +11,9 @@ pub(crate) fn rests_of(span: PackedSpan) -> PackedSpan
         × (result.len ≡ span.len - span.len % 256) }
 {
     PackedSpan {
-        index: span.index - span.index % FIRST_INDEX,
-        start: span.start - span.start % FIRST_START,
-        len: span.len - span.len % FIRST_LEN,
+        index: span.index - span.index % ONE_WORD.index,
+        start: span.start - span.start % ONE_WORD.start,
+        len: span.len - span.len % ONE_WORD.len,
     }
 }
 
@@ -54,10 +40,7 @@ pub(crate) fn first_word(extra: u32, extend: u32, taken: PackedSpan) -> u32
 pub(crate) fn are_none(rests: PackedSpan) -> bool
     ensures { result ≡ all_below (span_of rests) 1 1 1 }
 {
-    if 0 < rests.index as u64 + rests.start as u64 + rests.len as u64 {
-        return false;
-    }
-    true
+    rests.index as u64 + rests.start as u64 + rests.len as u64 == 0
 }
 
 // Whether a second word holds the rests. The index is asked by itself, which takes less time where it alone decides;
@@ -65,15 +48,12 @@ pub(crate) fn are_none(rests: PackedSpan) -> bool
 pub(crate) fn fit_second_word(rests: PackedSpan) -> bool
     ensures { result ≡ all_below (span_of rests) 32768 134217728 262144 }
 {
-    if BOTH_INDEX <= rests.index {
+    if TWO_WORDS.index <= rests.index {
         return false;
     }
-    let start = rests.start - rests.start % BOTH_START;
-    let len = rests.len - rests.len % BOTH_LEN;
-    if 0 < start as u64 + len as u64 {
-        return false;
-    }
-    true
+    let start = rests.start - rests.start % TWO_WORDS.start;
+    let len = rests.len - rests.len % TWO_WORDS.len;
+    start as u64 + len as u64 == 0
 }
 
 // Bit 0 is 0, then 11, 10, 10 bits of index, length, start.

@@ -6,13 +6,16 @@ ghost use Rattle.format.specs.Write.{symbol_bytes};
 ghost use Rattle.pack.specs.Answer.{symbol_answer};
 ghost use Rattle.pack.specs.Packing.{SymbolPacked};
 
+use crate::row::{self, Row};
 use crate::unchecked::{byte_at, half_at, put_byte, put_half};
-use crate::{Packed, room};
 
 // The indices that take one byte, and those that take at most two, are below these.
 const ONE_BYTE: u32 = 64;
 
 const TWO_BYTES: u32 = 8192;
+
+// Row 8: no form holds an index from here on.
+pub const INDEX_END: u32 = 536870912;
 
 // A symbol that was read, its tag bit, and the place behind it.
 #[derive(Clone, Copy)]
@@ -22,52 +25,47 @@ pub struct SymbolAt {
     pub next: usize,
 }
 
-#[derive(Clone, Copy)]
-pub enum SymbolRead {
-    Read(SymbolAt),
-    // The buffer ends inside the symbol.
-    Short,
-}
-
-// The symbol at a place, and the place behind it.
-pub fn decode_symbol(b: &[u8], at: usize) -> SymbolRead
+// The symbol at a place, and the place behind it, or None where the buffer ends inside.
+#[tactic(auto, using(crate::proofs::SymbolReturns::decode_symbol_cases))]
+pub fn decode_symbol(b: &[u8], at: usize) -> Option<SymbolAt>
     ensures { result ≡ symbol_answer (symbol_at b.now at) }
 {
-    let left = room(b.len(), at);
+    let left = b.len().saturating_sub(at);
     if left < 1 {
-        return SymbolRead::Short;
+        return None;
     }
     let x = byte_at(b, at);
     if x / 2 % 2 == 0 {
-        return SymbolRead::Read(SymbolAt {
+        return Some(SymbolAt {
             index: x / 4,
             tag: x % 2,
             next: at + 1,
         });
     }
     if left < 2 {
-        return SymbolRead::Short;
+        return None;
     }
     let y = byte_at(b, at + 1);
     if y % 2 == 0 {
-        return SymbolRead::Read(SymbolAt {
-            index: x / 4 + 64 * (y / 2),
+        return Some(SymbolAt {
+            index: x / 4 + ONE_BYTE * (y / 2),
             tag: x % 2,
             next: at + 2,
         });
     }
     if left < 4 {
-        return SymbolRead::Short;
+        return None;
     }
     let z = half_at(b, at + 2);
-    SymbolRead::Read(SymbolAt {
-        index: x / 4 + 64 * (y / 2) + 8192 * z,
+    Some(SymbolAt {
+        index: x / 4 + ONE_BYTE * (y / 2) + TWO_BYTES * z,
         tag: x % 2,
         next: at + 4,
     })
 }
 
 // The bytes that a symbol takes: the tag bit does not change their number.
+#[tactic(auto, using(crate::proofs::Sizes::size_cases))]
 pub fn symbol_size(index: u32) -> usize
     ensures { result ≡ length (symbol_bytes 0 index) }
 {
@@ -80,6 +78,7 @@ pub fn symbol_size(index: u32) -> usize
     4
 }
 
+#[tactic(auto, using(crate::proofs::SymbolReturns::put_symbol_cases))]
 fn put_symbol(out: &mut [u8], at: usize, tag: u32, index: u32)
     requires { (at + length (symbol_bytes 0 index) ≤ length out.old) × (tag ≤ 1) × (index < 536870912) }
     ensures { out.new ≡ put out.old at (symbol_bytes tag index) }
@@ -88,29 +87,30 @@ fn put_symbol(out: &mut [u8], at: usize, tag: u32, index: u32)
         put_byte(out, at, tag + 4 * index);
         return;
     }
-    put_byte(out, at, tag + 2 + 4 * (index % 64));
+    put_byte(out, at, tag + 2 + 4 * (index % ONE_BYTE));
     if index < TWO_BYTES {
-        put_byte(out, at + 1, 2 * (index / 64));
+        put_byte(out, at + 1, 2 * (index / ONE_BYTE));
         return;
     }
-    put_byte(out, at + 1, 1 + 2 * (index / 64 % 128));
-    put_half(out, at + 2, index / 8192);
+    put_byte(out, at + 1, 1 + 2 * (index / ONE_BYTE % 128));
+    put_half(out, at + 2, index / TWO_BYTES);
 }
 
 // Packs a symbol index with its tag bit at a place.
-pub fn encode_symbol(out: &mut [u8], at: usize, tag: u32, index: u32) -> Packed
+#[tactic(auto, using(crate::proofs::PackReturns::encode_symbol_cases))]
+pub fn encode_symbol(out: &mut [u8], at: usize, tag: u32, index: u32) -> Result<usize, Row>
     ensures { SymbolPacked out.old at tag index result out.new }
 {
     if 1 < tag {
-        return Packed::Refused(2);
+        return Err(row::FIELD);
     }
-    if 536870912 <= index {
-        return Packed::Refused(8);
+    if INDEX_END <= index {
+        return Err(row::INDEX);
     }
     let n = symbol_size(index);
-    if room(out.len(), at) < n {
-        return Packed::Refused(6);
+    if out.len().saturating_sub(at) < n {
+        return Err(row::ROOM);
     }
     put_symbol(out, at, tag, index);
-    Packed::Written(n)
+    Ok(n)
 }

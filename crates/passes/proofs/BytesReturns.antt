@@ -8,6 +8,7 @@ use native.Mathlib.Nat.{zero-add}
 use borrow.Author.Tests.{le-leb}
 use lib.Dec.{eqb}
 use lib.ListN.{length, get_or}
+use Rattle.std.specs.Prelude.{Result}
 use Rattle.format.specs.Verdict.{passed}
 use Rattle.format.specs.Word.{put}
 use Rattle.format.specs.Tree.{Raw, subtree, is_subtree, count_of}
@@ -22,19 +23,19 @@ use Rattle.format.specs.Builder.{holding_all}
 use Rattle.format.proofs.Holding.{holding_other}
 use Rattle.format.proofs.Each.{true_false}
 use Rattle.pack.specs.Answer.{span_of}
-use Rattle.pack.specs.declared.Packed.{Packed}
 use Rattle.pack.proofs.Store.{put_put, put_none}
 use Rattle.encode.specs.Encode.{indices, pack_tree, TreePacked}
 use Rattle.tree.specs.declared.raw.RawSubtree.{RawSubtree}
 use Rattle.tree.specs.declared.raw.ChildrenBytes.{ChildrenBytes}
 use Rattle.encode.proofs.EncodeUse.{below_root_lem, encoded_contents}
 use Rattle.passes.specs.Tail.{size_from, kids_of, bytes_at, head_of}
+use Rattle.passes.specs.declared.scratch.Scratch.{Scratch}
 use Rattle.passes.specs.Run.{Run, children_in, Spanned, Falls, Sized, root_of, Advanced}
 use Rattle.passes.specs.Passed.{Passed}
 use Rattle.passes.proofs.TailLaw.{size_is, size_falls, size_end, head_size, head_more, raw_fields, raw_indices, root_subtree}
 use Rattle.passes.proofs.HoldLaw.{some_trees_lem, most_trees_lem, held_count, held_root, listed, low_bytes, low_fields, low_indices, hold_size, held_sized}
-use Rattle.passes.proofs.RunLaw.{run_tree, run_cases, ready_roomy, ready_indexed, run_next_before, run_part}
-use Rattle.passes.proofs.SizesReturns.{spanned, children_are, sized_down, run_low}
+use Rattle.passes.proofs.RunLaw.{run_tree, run_cases, ready_roomy, ready_indexed, run_part}
+use Rattle.passes.proofs.SizesReturns.{spanned, children_are, sized_down}
 
 -- ---- the root's words
 
@@ -65,9 +66,6 @@ subtree_by a b d u w n h same e =
 -- ---- the output up to a tree
 
 module _ (M : Mode) (l : List ℕ) where
-  pub advanced_none : (n : ℕ) (out : List ℕ) → Advanced M l n n out out
-  advanced_none n out = record { goes = λ b h e. e }
-
   pub advanced_next : (a b c : ℕ) (out out₁ out₂ : List ℕ) → Advanced M l a b out out₁ → Advanced M l b c out₁ out₂ → Advanced M l a c out out₂
   advanced_next a b c out out₁ out₂ x y = record { goes = λ d h e. y.goes d h (x.goes d h e) }
 
@@ -187,7 +185,7 @@ module _ (M : Mode) (l : List ℕ) (ok : Passed M l) (work : List ℕ) (w : Size
       let e = held.at 1 (omega arith) (omega arith) in
       omega arith
 
-  pub root_advances : (q : RawSubtree) → q ≡ root_of l M.root → (out : List ℕ) → size_from M l 0 ≤ length out → (r : Packed) (out' : List ℕ)
+  pub root_advances : (q : RawSubtree) → q ≡ root_of l M.root → (out : List ℕ) → size_from M l 0 ≤ length out → (r : Result ℕ ℕ) (out' : List ℕ)
       → TreePacked out 0 0 (subtree (span_of q.opening) (span_of q.closing) q.len.0 q.kind) (get_or work 1 0) r out' → Advanced M (holding_all l) 0 1 out out'
   unfolding head_of bytes_at
   root_advances q e out h r out' t =
@@ -201,23 +199,13 @@ module _ (M : Mode) (l : List ℕ) (ok : Passed M l) (work : List ℕ) (w : Size
 pub run_ends : (M : Mode) (l : List ℕ) (from stop n : ℕ) (out out' : List ℕ) → Advanced M l from n out out' → n ≤ stop → stop ≤ n → Advanced M l from stop out out'
 run_ends M l from stop n out out' a h k = let e : n ≡ stop = omega arith in rw e at a
 
--- tree n of a run lies below the root
-pub run_above : (M : Mode) (l : List ℕ) (from stop n : ℕ) (os cs ys : List ℕ) → Run M l from stop os cs ys → from ≤ n → 1 ≤ n
-run_above M l from stop n os cs ys r h = let a = r.below in omega arith
-
-pub run_inside : (M : Mode) (l : List ℕ) (from stop n : ℕ) (os cs ys : List ℕ) → Run M l from stop os cs ys → n < stop → n < list_count l
-run_inside M l from stop n os cs ys r h = let a = r.last in omega arith
+pub run_inside : (M : Mode) (l : List ℕ) (from stop n : ℕ) (s : Scratch) → Run M l from stop s → n < stop → n < list_count l
+run_inside M l from stop n s r h = let a = r.last in omega arith
 
 pub still_room : (n : ℕ) (out out' : List ℕ) → n ≤ length out → length out' ≡ length out → n ≤ length out'
 still_room n out out' h e = omega arith
 
 pub ruleset put_at_cases = (tree_falls, tree_spanned, tree_ready, tree_advances)
-
-pub ruleset put_run_cases = (run_low, run_above, run_inside, run_tree, still_room, advanced_none, advanced_next, run_ends)
-
-pub ruleset put_from_cases = (ready_roomy, ready_indexed, run_next_before)
-
-pub ruleset put_all_cases = (run_cases, advanced_none, advanced_next, run_ends)
 
 pub ruleset put_root_cases = (root_some, root_most, root_index, root_word, root_advances)
 

@@ -1,7 +1,6 @@
 -- Runs of trees: what a chunk of indices says of its trees, and slots and arrays that keep their lengths.
 use Prim.Native.Nat.{ℕ, ◌+◌, ◌*◌, ◌-◌, ◌≤◌, ◌<◌}
-use mathlib.Core.Bool.{true}
-use mathlib.Core.Path.{◌≡◌, refl, ap, ◌∙◌, subst}
+use mathlib.Core.Path.{◌≡◌, ap, subst}
 use mathlib.Core.List.{List}
 use native.Mathlib.Omega.{arith}
 use native.Mathlib.Nat.{add-zero}
@@ -12,51 +11,51 @@ use Rattle.format.specs.Tables.{Mode}
 use Rattle.format.specs.WordList.{word_of, raw_from, list_count}
 use Rattle.format.specs.Writer.{raw_of}
 use Rattle.places.specs.Places.{below_root, Roomy, Indexed, Resolved}
-use Rattle.passes.specs.Run.{Lent, Ready, Kept, Run}
+use Rattle.passes.specs.Runs.{mode_by}
+use Rattle.passes.specs.declared.runs.Runs.{Runs}
+use Rattle.passes.specs.declared.scratch.Scratch.{Scratch}
+use Rattle.passes.specs.Run.{Ready, Run}
 
 -- the sort of tree n
 pub first_word : (l : List ℕ) (n : ℕ) → word_of l n 0 ≡ get_or l (tree_size * n) 0
 first_word l n = ap (λ i. get_or l i 0) (add-zero (tree_size * n))
 
 -- tree n of a run
-pub run_tree : (M : Mode) (l : List ℕ) (from stop n : ℕ) (os cs ys : List ℕ) → Run M l from stop os cs ys → from ≤ n → n < stop
-    → raw_from (get_or os (n - from) 0) (get_or cs (n - from) 0) (get_or ys (n - from) 0) (word_of l n) ≡ raw_of M l n
-run_tree M l from stop n os cs ys r g h =
+pub run_tree : (M : Mode) (l : List ℕ) (from stop n : ℕ) (s : Scratch) → Run M l from stop s → from ≤ n → n < stop
+    → raw_from (get_or s.opens.now (n - from) 0) (get_or s.closes.now (n - from) 0) (get_or s.syms.now (n - from) 0) (word_of l n) ≡ raw_of M l n
+run_tree M l from stop n s r g h =
     let a = r.last in
     let b = r.fits in
     let e : from + (n - from) ≡ n = omega arith in
-    subst (λ m. raw_from (get_or os (n - from) 0) (get_or cs (n - from) 0) (get_or ys (n - from) 0) (word_of l m) ≡ raw_of M l m) e (r.resolved.at (n - from) (omega arith) (omega arith))
+    subst (λ m. raw_from (get_or s.opens.now (n - from) 0) (get_or s.closes.now (n - from) 0) (get_or s.syms.now (n - from) 0) (word_of l m) ≡ raw_of M l m) e (r.resolved.at (n - from) (omega arith) (omega arith))
 
 roomy_kept : (g a b c d c' d' : ℕ) → Roomy g a b c d → c' ≡ c → d' ≡ d → Roomy g a b c' d'
 roomy_kept g a b c d c' d' r e f = rw (e, f) r
 
--- a mode by its parts, and trees below the root by the tables that it was resolved over
-abbrev mode_by : ℕ → ℕ → List ℕ → List ℕ → List ℕ → Mode
-mode_by g r p q s = record { sized = true; limit = g; root = r; parts = p; pair = q; symbols = s }
-
-resolved_in : (g r : ℕ) (p q s l : List ℕ) (from m : ℕ) (os cs ys : List ℕ) → 1 ≤ from → Resolved (below_root g p s) l from m os cs ys → Resolved (mode_by g r p q s) l from m os cs ys
-resolved_in g r p q s l from m os cs ys h R = record {
+-- trees below the root by the tables that they were resolved over
+resolved_in : (t : Runs) (l : List ℕ) (from m : ℕ) (os cs ys : List ℕ) → 1 ≤ from → Resolved (below_root t.limits.limit t.parts.now t.symbols.now) l from m os cs ys → Resolved (mode_by t) l from m os cs ys
+resolved_in t l from m os cs ys h R = record {
   at = λ j k i.
       let z = ne_eqb (from + j) 0 (λ e. absurd (omega arith)) in
       simp z (simp z at (R.at j k i));
 }
 
-module _ (g : ℕ) (p s ps ss os cs ys : List ℕ) (r : Ready g p s ps ss os cs ys) where
-  pub ready_roomy : Roomy g (length p) (length s) (length ps) (length ss)
+module _ (t : Runs) (s : Scratch) (r : Ready t s) where
+  pub ready_roomy : Roomy t.limits.limit (length t.parts.now) (length t.symbols.now) (length s.part_slots.now) (length s.symbol_slots.now)
   ready_roomy = r.lent.roomy
 
-  pub ready_indexed : Indexed g p s ps ss
+  pub ready_indexed : Indexed t.limits.limit t.parts.now t.symbols.now s.part_slots.now s.symbol_slots.now
   ready_indexed = r.indexed
 
-  module _ (ps' ss' os' cs' ys' : List ℕ) (eo : length os' ≡ length os) (ec : length cs' ≡ length cs) (ey : length ys' ≡ length ys) where
-    pub ready_next : Indexed g p s ps' ss' → length ps' ≡ length ps → length ss' ≡ length ss → Ready g p s ps' ss' os' cs' ys'
+  module _ (s' : Scratch) (eo : length s'.opens.now ≡ length s.opens.now) (ec : length s'.closes.now ≡ length s.closes.now) (ey : length s'.syms.now ≡ length s.syms.now) where
+    pub ready_next : Indexed t.limits.limit t.parts.now t.symbols.now s'.part_slots.now s'.symbol_slots.now → length s'.part_slots.now ≡ length s.part_slots.now → length s'.symbol_slots.now ≡ length s.symbol_slots.now → Ready t s'
     ready_next i ep es =
         let a = r.lent.some in
         let b = r.lent.even_closes in
         let c = r.lent.even_syms in
         record {
           lent = record {
-            roomy = roomy_kept g (length p) (length s) (length ps) (length ss) (length ps') (length ss') r.lent.roomy ep es;
+            roomy = roomy_kept t.limits.limit (length t.parts.now) (length t.symbols.now) (length s.part_slots.now) (length s.symbol_slots.now) (length s'.part_slots.now) (length s'.symbol_slots.now) r.lent.roomy ep es;
             some = omega arith;
             even_closes = omega arith;
             even_syms = omega arith;
@@ -65,13 +64,13 @@ module _ (g : ℕ) (p s ps ss os cs ys : List ℕ) (r : Ready g p s ps ss os cs 
         }
 
     -- the run that was resolved
-    pub run_next : (t : ℕ) (q l : List ℕ) (from stop : ℕ) → Resolved (below_root g p s) l from (length os) os' cs' ys' → 1 ≤ from → from < stop → stop ≤ list_count l → stop ≤ from + length os
-        → Run (mode_by g t p q s) l from stop os' cs' ys'
-    run_next t q l from stop i h₁ h₂ h₃ h₄ =
+    pub run_next : (l : List ℕ) (from stop : ℕ) → Resolved (below_root t.limits.limit t.parts.now t.symbols.now) l from (length s.opens.now) s'.opens.now s'.closes.now s'.syms.now → 1 ≤ from → from < stop → stop ≤ list_count l → stop ≤ from + length s.opens.now
+        → Run (mode_by t) l from stop s'
+    run_next l from stop i h₁ h₂ h₃ h₄ =
         let b = r.lent.even_closes in
         let c = r.lent.even_syms in
         record {
-          resolved = rw eo (resolved_in g t p q s l from (length os) os' cs' ys' h₁ i);
+          resolved = rw eo (resolved_in t l from (length s.opens.now) s'.opens.now s'.closes.now s'.syms.now h₁ i);
           below = h₁;
           some = omega arith;
           last = h₃;
@@ -80,30 +79,9 @@ module _ (g : ℕ) (p s ps ss os cs ys : List ℕ) (r : Ready g p s ps ss os cs 
           even_syms = omega arith;
         }
 
-    -- … before a tree of the list
-    pub run_next_before : (t : ℕ) (q l : List ℕ) (from stop count : ℕ) → Resolved (below_root g p s) l from (length os) os' cs' ys' → 1 ≤ from → from < stop → stop ≤ count → stop ≤ from + length os
-        → count ≤ list_count l → Run (mode_by g t p q s) l from stop os' cs' ys'
-    run_next_before t q l from stop count i h₁ h₂ h₃ h₄ h₅ = run_next t q l from stop i h₁ h₂ (omega arith) h₄
-
--- all trees below the root are one run
-pub run_whole : (g t : ℕ) (p q s ps ss os cs ys l : List ℕ) → Ready g p s ps ss os cs ys → (os' cs' ys' : List ℕ) → Resolved (below_root g p s) l 1 (length os) os' cs' ys'
-    → length os' ≡ length os → length cs' ≡ length cs → length ys' ≡ length ys → 1 ≤ list_count l → list_count l ≤ length os → Run (mode_by g t p q s) l 1 (list_count l) os' cs' ys'
-run_whole g t p q s ps ss os cs ys l r os' cs' ys' i eo ec ey h k =
-    let b = r.lent.even_closes in
-    let c = r.lent.even_syms in
-    record {
-      resolved = rw eo (resolved_in g t p q s l 1 (length os) os' cs' ys' (omega arith) i);
-      below = omega arith;
-      some = h;
-      last = omega arith;
-      fits = omega arith;
-      even_closes = omega arith;
-      even_syms = omega arith;
-    }
-
 -- … and so are those before one of them
-pub run_part : (M : Mode) (l os cs ys : List ℕ) (count : ℕ) → Run M l 1 (list_count l) os cs ys → (count ≡ 0 → ⊥) → count ≤ list_count l → Run M l 1 count os cs ys
-run_part M l os cs ys count r h k =
+pub run_part : (M : Mode) (l : List ℕ) (s : Scratch) (count : ℕ) → Run M l 1 (list_count l) s → (count ≡ 0 → ⊥) → count ≤ list_count l → Run M l 1 count s
+run_part M l s count r h k =
     let a = r.fits in
     record {
       resolved = r.resolved;
@@ -115,42 +93,6 @@ run_part M l os cs ys count r h k =
       even_syms = r.even_syms;
     }
 
--- the slots have been built
-module _ (g : ℕ) (p s ps ss os cs ys : List ℕ) (r : Lent g p s ps ss os cs ys) where
-  pub lent_roomy : Roomy g (length p) (length s) (length ps) (length ss)
-  lent_roomy = r.roomy
-
-  pub lent_ready : (ps' ss' : List ℕ) → Indexed g p s ps' ss' → length ps' ≡ length ps → length ss' ≡ length ss → Ready g p s ps' ss' os cs ys
-  lent_ready ps' ss' i ep es =
-      record {
-        lent = record {
-          roomy = roomy_kept g (length p) (length s) (length ps) (length ss) (length ps') (length ss') r.roomy ep es;
-          some = r.some;
-          even_closes = r.even_closes;
-          even_syms = r.even_syms;
-        };
-        indexed = i;
-      }
-
-module _ (ps ss os cs ys ps₀ ss₀ os₀ cs₀ ys₀ : List ℕ) where
-  pub kept_next : Kept ps ss os cs ys ps₀ ss₀ os₀ cs₀ ys₀ → (ps' ss' os' cs' ys' : List ℕ)
-      → length ps' ≡ length ps → length ss' ≡ length ss → length os' ≡ length os → length cs' ≡ length cs → length ys' ≡ length ys
-      → Kept ps' ss' os' cs' ys' ps₀ ss₀ os₀ cs₀ ys₀
-  kept_next k ps' ss' os' cs' ys' a b c d e =
-      record {
-        of_part_slots = a ∙ k.of_part_slots;
-        of_symbol_slots = b ∙ k.of_symbol_slots;
-        of_opens = c ∙ k.of_opens;
-        of_closes = d ∙ k.of_closes;
-        of_syms = e ∙ k.of_syms;
-      }
-
-pub kept_none : (ps ss os cs ys : List ℕ) → Kept ps ss os cs ys ps ss os cs ys
-kept_none ps ss os cs ys = record { of_part_slots = refl; of_symbol_slots = refl; of_opens = refl; of_closes = refl; of_syms = refl }
-
-pub same_chain : (a b c : List ℕ) → length a ≡ length b → length b ≡ length c → length a ≡ length c
-same_chain a b c e f = e ∙ f
-
 -- the next run
 pub run_after : (n stop : ℕ) → 1 ≤ n → n < stop → 1 ≤ stop
 run_after n stop a b = omega arith
@@ -158,4 +100,4 @@ run_after n stop a b = omega arith
 pub run_before : (from n k : ℕ) → from < n → n ≤ k → from ≤ k
 run_before from n k a b = omega arith
 
-pub ruleset run_cases = (run_after, run_before, kept_none, same_chain, ready_roomy, ready_indexed, ready_next, run_next, kept_next)
+pub ruleset run_cases = (run_after, run_before, ready_roomy, ready_indexed, ready_next, run_next)

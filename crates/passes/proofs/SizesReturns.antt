@@ -18,11 +18,11 @@ use Rattle.format.proofs.WriteSize.{tree_size_lem}
 use Rattle.tree.specs.declared.raw.ChildrenBytes.{ChildrenBytes}
 use Rattle.encode.proofs.EncodeUse.{below_root_lem}
 use Rattle.passes.specs.Tail.{size_from, kids_of, bytes_at}
-use Rattle.passes.specs.Run.{Run, count_in, children_in, Spanned, Sized, Beyond}
+use Rattle.passes.specs.Run.{count_in, children_in, Spanned, Sized, Beyond}
 use Rattle.passes.specs.Passed.{Passed}
 use Rattle.passes.proofs.TailLaw.{size_is, size_falls, size_most, size_end}
 use Rattle.passes.proofs.HoldLaw.{some_trees_lem, most_trees_lem, low_ends, top_size}
-use Rattle.passes.proofs.RunLaw.{first_word, run_tree, run_cases}
+use Rattle.passes.proofs.RunLaw.{first_word}
 
 -- ---- the descendants of a tree
 
@@ -166,17 +166,6 @@ module _ (M : Mode) (l : List ℕ) (ok : Passed M l) where
               let q = eqb-false i n z in
               get_or-set_other work n i (x + get_or work (n + 1) 0) 0 q ∙ w.at i (omega arith) j
 
-  -- tree n - 1 of a run
-  module _ (from stop n : ℕ) (os cs ys : List ℕ) (r : Run M l from stop os cs ys) (h : from < n) (k : n ≤ stop) where
-    pub run_under : 1 ≤ n - 1
-    run_under = let a = r.below in omega arith
-
-    pub run_last_tree : raw_from (get_or os (n - 1 - from) 0) (get_or cs (n - 1 - from) 0) (get_or ys (n - 1 - from) 0) (word_of l (n - 1)) ≡ raw_of M l (n - 1)
-    run_last_tree = run_tree M l from stop (n - 1) os cs ys r (omega arith) (omega arith)
-
-pub run_words : (M : Mode) (l : List ℕ) (from n : ℕ) (work : List ℕ) → Sized M l n work → from < n → Sized M l (n - 1 + 1) work
-run_words M l from n work w h = let e : n - 1 + 1 ≡ n = omega arith in rw e w
-
 -- the two words are there
 pub word_room : (M : Mode) (l : List ℕ) (n m : ℕ) (work : List ℕ) → Sized M l m work → n < list_count l → n < length work
 word_room M l n m work w h = let a = w.room in omega arith
@@ -192,24 +181,9 @@ beyond_one l work i v h = record { same = λ j g. get_or-set_other work i j v 0 
 
 pub ruleset size_at_cases = (word_room, next_room, size_fits, spanned, word_fits, word_stored, beyond_one)
 
-module _ (l work work₀ : List ℕ) (b : Beyond l work work₀) where
-  pub beyond_next : (work' : List ℕ) → Beyond l work' work → Beyond l work' work₀
-  beyond_next work' c = record { same = λ j g. c.same j g ∙ b.same j g; long = c.long ∙ b.long }
-
-pub beyond_none : (l work : List ℕ) → Beyond l work work
-beyond_none l work = record { same = λ j g. refl; long = refl }
-
-pub run_within : (M : Mode) (l : List ℕ) (from stop n : ℕ) (os cs ys : List ℕ) → Run M l from stop os cs ys → from < n → n ≤ stop → n - 1 < list_count l
-run_within M l from stop n os cs ys r h k = let a = r.last in omega arith
-
-pub run_low : (M : Mode) (l : List ℕ) (from stop : ℕ) (os cs ys : List ℕ) → Run M l from stop os cs ys → from ≤ stop
-run_low M l from stop os cs ys r = r.some
-
 -- a run that is done
 pub sized_down : (M : Mode) (l : List ℕ) (from n : ℕ) (work : List ℕ) → Sized M l n work → n ≤ from → Sized M l from work
 sized_down M l from n work w h = record { room = w.room; at = λ i g k. w.at i (omega arith) k }
-
-pub ruleset size_run_cases = (run_low, run_within, run_under, run_last_tree, beyond_next, beyond_none, sized_down)
 
 -- ---- the first and the last word
 
@@ -282,5 +256,3 @@ module _ (l work work₁ work₂ : List ℕ) where
 pub ruleset root_word_cases = (root_room, root_fits, root_word, beyond_first)
 
 pub ruleset fill_cases = (last_word, beyond_filled, filled_long)
-
-pub ruleset size_all_cases = (run_cases, some_trees_lem, beyond_next, beyond_none, sized_down)

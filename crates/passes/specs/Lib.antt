@@ -1,3 +1,4 @@
 pub mod Passed
 pub mod Tail
+pub mod Runs
 pub mod Run

@@ -8,9 +8,13 @@ use Rattle.format.specs.WordList.{list_count}
 use Rattle.format.specs.Writer.{raw_of, raws, row_five}
 
 module _ (M : Mode) (l : List ℕ) where
-  -- row 5 from tree n on
-  unfoldable pub five_from : ℕ → Verdict
-  five_from n = each_from (row_five M l) (list_count l - n) n
+  -- row 5 of trees n to stop - 1
+  unfoldable pub five_in : ℕ → ℕ → Verdict
+  five_in n stop = each_from (row_five M l) (stop - n) n
+
+  -- … of trees n to the end
+  abbrev pub five_from : ℕ → Verdict
+  five_from n = five_in n (list_count l)
 
   -- the bytes of trees n to the end
   unfoldable pub rest_of : ℕ → List ℕ

@@ -3,4 +3,6 @@
 
 pub mod bytes;
 pub mod five;
+pub mod runs;
+pub mod scratch;
 pub mod sizes;

@@ -5,7 +5,8 @@ use mathlib.Core.Logic.{⊎_elim}
 use mathlib.Core.Path.{◌≡◌, refl, ap, sym, ◌∙◌, subst}
 use mathlib.Core.List.{List}
 use native.Mathlib.Omega.{arith}
-use lib.ListN.{length, get_or, set, length-set, get_or-eq_default}
+use lib.ListN.{length, get_or, set, replicate, length-set, length-replicate, get_or-eq_default}
+use Rattle.std.proofs.lemmas.List.{get_or-replicate}
 use lib.Seq.{get_or-set_same, get_or-set_other}
 use lib.Dec.{eqb}
 use Rattle.format.specs.Part.{Part}
@@ -15,7 +16,7 @@ use Rattle.format.proofs.PartLaw.{same_part_lem, part_same}
 use Rattle.format.proofs.First.{find_at, find_first, none_find}
 use Rattle.places.specs.Key.{is_key}
 use Rattle.slots.specs.Probe.{probe}
-use Rattle.places.specs.Index.{slot_of, Leads, Held, Finds, Filled}
+use Rattle.places.specs.Index.{slot_of, Leads, Held}
 use Rattle.slots.specs.declared.probe.Looked.{Looked}
 use Rattle.slots.specs.declared.probe.Looked.TheVariants.{Found, Empty, Full}
 use Rattle.places.proofs.FindLaw.{find_on, find_here}
@@ -97,9 +98,6 @@ module _ (key : ℕ → Part) (g : ℕ) (slots : List ℕ) (H : Held key g slots
         let there = subst (λ (s : ℕ). probe (length slots) slots (λ e. eqb e r) s (length slots) ≡ Found r) same (H.reach r q.1) in
         true_false (is_key key k r) (key_is key k r q.0) (probe_miss (length slots) slots (is_key key k) (slot_of k (length slots)) (length slots) r there h)
 
-    pub held_finds : Finds key g k looked
-    held_finds = record { found = held_found; none = held_none }
-
     -- there is an empty slot
     pub held_room : g < length slots → slot_of k (length slots) < length slots → looked ≡ Full → ⊥
     held_room h s q =
@@ -166,12 +164,12 @@ module _ (key : ℕ → Part) (g : ℕ) (slots : List ℕ) (H : Held key g slots
       stored i l e = ap (λ (j : ℕ). get_or (set slots s (suc g)) j 0) e ∙ get_or-set_same slots s (suc g) 0 l
 
 -- nothing is entered yet
-pub held_empty : (key : ℕ → Part) (slots : List ℕ) → Filled 0 (length slots) slots → Held key 0 slots
-held_empty key slots Z = record {
+pub held_empty : (key : ℕ → Part) (slots : List ℕ) (n : ℕ) → slots ≡ replicate n 0 → Held key 0 slots
+held_empty key slots n Z = record {
   entry = λ s p. let z = zero_at s in absurd (omega arith);
   reach = λ r L. let b = L.to in absurd (omega arith);
   few = let z = occupied_none slots zero_at in omega arith;
 }
   where
     zero_at : (k : ℕ) → get_or slots k 0 ≡ 0
-    zero_at k = ⊎_elim (λ h. Z.at k h) (λ h. get_or-eq_default slots 0 {n = k} h) (lt_or_le k (length slots))
+    zero_at k = rw Z (⊎_elim (λ h. get_or-replicate n k 0 0 h) (λ h. get_or-eq_default (replicate n 0) 0 {n = k} (simp length-replicate h)) (lt_or_le k n))

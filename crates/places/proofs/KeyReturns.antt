@@ -1,14 +1,15 @@
 -- One law for each return of the functions of src/key.rt.
-use Prim.Native.Nat.{ℕ, ◌+◌, ◌*◌, ◌/◌, ◌≤◌, ◌<◌}
-use mathlib.Core.Bool.{true, false}
+use Prim.Native.Nat.{ℕ, ◌+◌, ◌*◌, ◌/◌, ◌≤◌}
+use mathlib.Core.Bool.{Bool, true, false, ◌&&◌}
 use mathlib.Core.Path.{◌≡◌, refl, sym, ap, ◌∙◌}
 use mathlib.Core.List.{List}
 use native.Mathlib.Omega.{arith}
 use borrow.Author.Tests.{eq-eqb, ne_eqb}
+use lib.Dec.{eqb}
 use lib.ListN.{length, get_or}
 use Rattle.format.specs.Width.{part_size, open_at, close_at, tree_size}
 use Rattle.format.specs.Part.{Part, part_from, same_part, part_at}
-use Rattle.format.specs.WordList.{word_of, list_count}
+use Rattle.format.specs.WordList.{word_of}
 use Rattle.format.proofs.PartLaw.{part_from_lem}
 use Rattle.places.specs.Key.{part_of, symbol_part, part_in, key_at, key_count, shift, named}
 use Rattle.places.specs.declared.key.Key.{Key}
@@ -17,26 +18,26 @@ use Rattle.places.specs.declared.key.Layout.TheVariants.{Parts, Symbols, Open, C
 
 -- ---- key i
 
-module _ (t : List ℕ) (w : Layout) (i : ℕ) (h : i < key_count t w) where
-  pub part_room : w ≡ Parts → part_size * i + part_size ≤ length t
+module _ (t : List ℕ) (w : Layout) where
+  pub count_parts : w ≡ Parts → key_count t w ≡ length t / part_size
   unfolding key_count
-  part_room e = let g : i < length t / part_size = rw e at h in omega arith
+  count_parts e = rw e
 
-  pub symbol_room : w ≡ Symbols → i < length t
+  pub count_symbols : w ≡ Symbols → key_count t w ≡ length t
   unfolding key_count
-  symbol_room e = rw e at h
+  count_symbols e = rw e
 
-  pub open_room : w ≡ Open → tree_size * i + tree_size ≤ length t
+  pub count_open : w ≡ Open → key_count t w ≡ length t / tree_size
   unfolding key_count
-  open_room e = let g : i < list_count t = rw e at h in omega arith
+  count_open e = rw e
 
-  pub close_room : w ≡ Close → tree_size * i + tree_size ≤ length t
+  pub count_close : w ≡ Close → key_count t w ≡ length t / tree_size
   unfolding key_count
-  close_room e = let g : i < list_count t = rw e at h in omega arith
+  count_close e = rw e
 
-  pub name_room : w ≡ Name → tree_size * i + tree_size ≤ length t
+  pub count_name : w ≡ Name → key_count t w ≡ length t / tree_size
   unfolding key_count
-  name_room e = let g : i < list_count t = rw e at h in omega arith
+  count_name e = rw e
 
 module _ (t : List ℕ) (w : Layout) (i : ℕ) (k : Part) where
   pub part_is : w ≡ Parts → k ≡ part_at t i → k ≡ key_at t w i
@@ -79,22 +80,14 @@ pub from_is : (t : List ℕ) (w : Layout) (base i : ℕ) (k : Part) → k ≡ ke
 unfolding shift
 from_is t w base i k e = e
 
--- ---- two keys
+-- ---- two keys, field by field
 
-module _ (x y : Key) where
-  pub file_differs : (x.file ≡ y.file → ⊥) → false ≡ same_part (part_of x) (part_of y)
-  file_differs h = simp (ne_eqb _ _ h)
-
-  module _ (e₁ : x.file ≡ y.file) where
-    pub ast_differs : (x.ast_id ≡ y.ast_id → ⊥) → false ≡ same_part (part_of x) (part_of y)
-    ast_differs h = simp (eq-eqb _ _ e₁, ne_eqb _ _ h)
-
-    module _ (e₂ : x.ast_id ≡ y.ast_id) where
-      pub context_differs : (x.context ≡ y.context → ⊥) → false ≡ same_part (part_of x) (part_of y)
-      context_differs h = simp (eq-eqb _ _ e₁, eq-eqb _ _ e₂, ne_eqb _ _ h)
-
-      pub all_same : x.context ≡ y.context → true ≡ same_part (part_of x) (part_of y)
-      all_same h = simp (eq-eqb _ _ e₁, eq-eqb _ _ e₂, eq-eqb _ _ h)
+pub keys_same : (x y : Key) (b : Bool) → b ≡ (eqb x.file y.file && (eqb x.ast_id y.ast_id && eqb x.context y.context)) → b ≡ same_part (part_of x) (part_of y)
+keys_same x y b e = e ∙ go (eqb x.file y.file)
+  where
+    go : (a : Bool) → (a && (eqb x.ast_id y.ast_id && eqb x.context y.context)) ≡ ((a && eqb x.ast_id y.ast_id) && eqb x.context y.context)
+    go true = refl
+    go false = refl
 
 -- ---- a tree's sort
 
@@ -113,4 +106,4 @@ module _ (sort : ℕ) where
     named_neither h = simp (ne_eqb _ _ g, ne_eqb _ _ h)
 
 pub ruleset key_cases =
-    (part_room, symbol_room, open_room, close_room, name_room, part_is, symbol_is, open_is, close_is, name_is, from_is, file_differs, ast_differs, context_differs, all_same, named_ident, named_literal, named_neither)
+    (count_parts, count_symbols, count_open, count_close, count_name, count_most, part_is, symbol_is, open_is, close_is, name_is, from_is, named_ident, named_literal, named_neither)

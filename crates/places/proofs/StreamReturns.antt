@@ -7,20 +7,18 @@ use mathlib.Core.List.{List}
 use native.Mathlib.Omega.{arith}
 use borrow.Author.Tests.{eq-eqb, ne_eqb, eqb-true, eqb-false}
 use lib.Dec.{eqb}
-use lib.ListN.{length, get_or, set, length-set}
+use lib.ListN.{length, get_or, set, replicate, length-set}
+use Rattle.std.proofs.lemmas.List.{get_or-replicate}
 use lib.Seq.{get_or-set_same, get_or-set_other}
 use Rattle.format.specs.Part.{Part}
-use Rattle.std.specs.Prelude.{if◌then◌else◌}
+use Rattle.std.specs.Prelude.{if◌then◌else◌, Option, Some, None}
 use Rattle.format.specs.Writer.{find}
 use Rattle.places.specs.Key.{key_at, is_key, shift}
-use Rattle.places.specs.Index.{Leads, Finds, Filled}
+use Rattle.places.specs.Index.{Leads, Finds}
 use Rattle.places.specs.Places.{Placed, Midway, so_far}
 use Rattle.places.specs.declared.key.Layout.{Layout}
-use Rattle.slots.specs.declared.probe.Looked.{Looked}
-use Rattle.slots.specs.declared.probe.Looked.TheVariants.{Found, Empty, Full}
-use Rattle.slots.proofs.Cases.{eq_or_ne, kept}
+use Rattle.slots.proofs.Cases.{eq_or_ne}
 use Rattle.places.proofs.FindLaw.{so_far_none, so_far_all, so_far_not, so_far_first, so_far_again}
-use Rattle.slots.proofs.ProbeLaw.{found_empty, found_full}
 use Rattle.places.proofs.IndexLaw.{key_is, key_not, lead_once}
 
 -- ---- one place
@@ -47,19 +45,19 @@ module _ (t : List ℕ) (table : Layout) (n : ℕ) (l : List ℕ) (keys : Layout
   abbrev test : ℕ → ℕ → Bool
   test j = is_key (key_at t table) (tree j)
 
-  module _ (d e : ℕ) (M : Midway t table n l keys from base a m d e out) (k : Part) (q : Looked) (F : Finds (shift (key_at l keys) base) m k q) where
-    pub found_room : (j : ℕ) → q ≡ Found j → a + j < length out
+  module _ (d e : ℕ) (M : Midway t table n l keys from base a m d e out) (k : Part) (q : Option ℕ) (F : Finds (shift (key_at l keys) base) m k q) where
+    pub found_room : (j : ℕ) → q ≡ Some j → a + j < length out
     found_room j h = let r = M.room in let u = (F.found j h).0.to in omega arith
 
   -- ---- entry e
 
-  module _ (e : ℕ) (M : Midway t table n l keys from base a m a e out) (k : Part) (ek : k ≡ key_at t table e) (q : Looked) (F : Finds (shift (key_at l keys) base) m k q) where
+  module _ (e : ℕ) (M : Midway t table n l keys from base a m a e out) (k : Part) (ek : k ≡ key_at t table e) (q : Option ℕ) (F : Finds (shift (key_at l keys) base) m k q) where
     -- it is not key j
     other : (j : ℕ) → (tree j ≡ k → ⊥) → so_far (test j) n (e + 1) ≡ so_far (test j) n e
     other j h = so_far_not (test j) n e (key_not (key_at t table) (tree j) e (λ p. h (sym p ∙ sym ek)))
 
-    none : ((j : ℕ) → q ≡ Found j → ⊥) → Midway t table n l keys from base a m a (e + 1) out
-    none h = record {
+    pub meet_none : q ≡ None → Midway t table n l keys from base a m a (e + 1) out
+    meet_none h = record {
       begin = M.begin;
       room = M.room;
       done = M.done;
@@ -67,13 +65,7 @@ module _ (t : List ℕ) (table : Layout) (n : ℕ) (l : List ℕ) (keys : Layout
       leads = λ j L. M.leads j L ∙ sym (other j (F.none h j L.to));
     }
 
-    pub meet_empty : (s : ℕ) → q ≡ Empty s → Midway t table n l keys from base a m a (e + 1) out
-    meet_empty s h = none (λ j p. found_empty j s (sym p ∙ h))
-
-    pub meet_full : q ≡ Full → Midway t table n l keys from base a m a (e + 1) out
-    meet_full h = none (λ j p. found_full j (sym p ∙ h))
-
-    module _ (j : ℕ) (h : q ≡ Found j) (en : e < n) where
+    module _ (j : ℕ) (h : q ≡ Some j) (en : e < n) where
       lead : Leads tree m j
       lead = (F.found j h).0
 
@@ -132,23 +124,15 @@ module _ (t : List ℕ) (table : Layout) (n : ℕ) (l : List ℕ) (keys : Layout
           go true z o = subst (λ (x : List ℕ). Midway t table n l keys from base a m a (e + 1) x) (sym o) (first (eqb-true (get_or out (a + j) 0) n z))
           go false z o = subst (λ (x : List ℕ). Midway t table n l keys from base a m a (e + 1) x) (sym o) (again (eqb-false (get_or out (a + j) 0) n z))
 
-  pub ruleset meet_cases = (found_room, meet_empty, meet_full, meet_found)
-
-  pub midway_all : (e : ℕ) → Midway t table n l keys from base a m a e out → e ≤ n → n ≤ e → Midway t table n l keys from base a m a n out
-  midway_all e M u v = let p : e ≡ n = omega arith in subst (λ (x : ℕ). Midway t table n l keys from base a m a x out) p M
-
-  pub ruleset read_cases = (midway_all, kept)
+  pub ruleset meet_cases = (found_room, meet_none, meet_found)
 
   -- ---- key a + i
 
-  module _ (i : ℕ) (hi : i < m) (M : Midway t table n l keys from base a m (a + i) n out) (k : Part) (ek : k ≡ shift (key_at l keys) base i) (q : Looked) (F : Finds (shift (key_at l keys) base) m k q) where
-    pub spread_empty : (s : ℕ) → q ≡ Empty s → Midway t table n l keys from base a m (a + (i + 1)) n out
-    spread_empty s h = absurd (F.none (λ j p. found_empty j s (sym p ∙ h)) i hi (sym ek))
+  module _ (i : ℕ) (hi : i < m) (M : Midway t table n l keys from base a m (a + i) n out) (k : Part) (ek : k ≡ shift (key_at l keys) base i) (q : Option ℕ) (F : Finds (shift (key_at l keys) base) m k q) where
+    pub spread_absent : q ≡ None → Midway t table n l keys from base a m (a + (i + 1)) n out
+    spread_absent h = absurd (F.none h i hi (sym ek))
 
-    pub spread_full : q ≡ Full → Midway t table n l keys from base a m (a + (i + 1)) n out
-    spread_full h = absurd (F.none (λ j p. found_full j (sym p ∙ h)) i hi (sym ek))
-
-    pub spread_found : (j : ℕ) → q ≡ Found j → (out' : List ℕ) → out' ≡ set out (a + i) (get_or out (a + j) 0) → Midway t table n l keys from base a m (a + (i + 1)) n out'
+    pub spread_found : (j : ℕ) → q ≡ Some j → (out' : List ℕ) → out' ≡ set out (a + i) (get_or out (a + j) 0) → Midway t table n l keys from base a m (a + (i + 1)) n out'
     spread_found j h out' eo = subst (λ (x : List ℕ). Midway t table n l keys from base a m (a + (i + 1)) n x) (sym eo) (record {
       begin = M.begin;
       room = rw (length-set out (a + i) v) M.room;
@@ -185,15 +169,15 @@ module _ (t : List ℕ) (table : Layout) (n : ℕ) (l : List ℕ) (keys : Layout
         left : (x : ℕ) → a + x ≡ a + i → x ≡ i
         left x r = omega arith
 
-  pub ruleset spread_one_cases = (found_room, spread_empty, spread_full, spread_found)
+    pub key_room : a + i < length out
+    key_room = let r = M.room in omega arith
 
-  pub spread_none : Midway t table n l keys from base a m a n out → Midway t table n l keys from base a m (a + 0) n out
-  spread_none M = let z : a + 0 ≡ a = omega arith in subst (λ (x : ℕ). Midway t table n l keys from base a m x n out) (sym z) M
+  pub ruleset spread_one_cases = (found_room, key_room, spread_absent, spread_found)
 
-  pub spread_end : (i : ℕ) → Midway t table n l keys from base a m (a + i) n out → i ≤ m → m ≤ i → Placed t table n l keys from (a + m) out
-  spread_end i M u v = record { done = λ j h. M.done j (omega arith); todo = M.todo }
-
-  pub ruleset spread_cases = (spread_none, spread_end, kept)
+  pub spread_begin : (e : ℕ) → n ≡ e → Midway t table n l keys from base a m a e out → Midway t table n l keys from base a m (a + 0) n out
+  spread_begin e p M =
+      let z : a + 0 ≡ a = omega arith in
+      rw z (subst (λ (x : ℕ). Midway t table n l keys from base a m a x out) (sym p) M)
 
   -- ---- a portion of the keys
 
@@ -206,13 +190,14 @@ module _ (t : List ℕ) (table : Layout) (n : ℕ) (l : List ℕ) (keys : Layout
     leads = λ j L. let u = L.to in P.todo (a + j) (omega arith) (omega arith) ∙ sym (so_far_none (test j) n);
   }
 
-  pub ruleset portion_cases = (portion_begin, kept)
+  pub portion_end : Midway t table n l keys from base a m (a + m) n out → Placed t table n l keys from (a + m) out
+  portion_end M = record { done = M.done; todo = M.todo }
 
-pub run_begin : (t : List ℕ) (table : Layout) (n : ℕ) (l : List ℕ) (keys : Layout) (from : ℕ) (out : List ℕ) (x : ℕ) → Filled n x out → length out ≡ x → Placed t table n l keys from 0 out
-run_begin t table n l keys from out x F e = record { done = λ j h. absurd (omega arith); todo = λ j u v. F.at j (omega arith) }
+pub run_begin : (t : List ℕ) (table : Layout) (n : ℕ) (l : List ℕ) (keys : Layout) (from : ℕ) (out : List ℕ) (x : ℕ) → out ≡ replicate x n → length out ≡ x → Placed t table n l keys from 0 out
+run_begin t table n l keys from out x F e = record { done = λ j h. absurd (omega arith); todo = λ j u v. rw F (get_or-replicate x j n 0 (omega arith)) }
 
 pub run_end : (t : List ℕ) (table : Layout) (n : ℕ) (l : List ℕ) (keys : Layout) (from : ℕ) (out : List ℕ) (a m : ℕ) → Placed t table n l keys from a out → a ≤ m → m ≤ a
     → Placed t table n l keys from m out
 run_end t table n l keys from out a m P u v = let e : a ≡ m = omega arith in subst (λ (x : ℕ). Placed t table n l keys from x out) e P
 
-pub ruleset run_cases = (run_begin, run_end, kept)
+pub ruleset run_cases = (run_begin, run_end, portion_begin, portion_end)

@@ -1,5 +1,5 @@
 -- A hash index of keys: of those that are alike the first is entered.
-use Rattle.std.specs.Prelude.{ℕ, ◌+◌, ◌-◌, ◌/◌, ◌<◌, ◌≤◌, ◌≡◌, List, length, get_or, eqb}
+use Rattle.std.specs.Prelude.{ℕ, ◌+◌, ◌-◌, ◌/◌, ◌<◌, ◌≤◌, ◌≡◌, List, length, get_or, eqb, Option, Some, None}
 use Rattle.format.specs.Part.{Part}
 use Rattle.format.specs.Writer.{find}
 use Rattle.places.specs.Key.{is_key, key_at, key_count, shift}
@@ -37,9 +37,9 @@ pub record Loaded (t : List ℕ) (layout : Layout) (base g : ℕ) (slots : List 
   pub held : Held (shift (key_at t layout) base) g slots
 
 -- what a search for a key among g of them says: the first place where it stands, or that it does not
-pub record Finds (key : ℕ → Part) (g : ℕ) (k : Part) (r : Looked) : Type 0 where
-  pub found : (j : ℕ) → r ≡ Found j → Leads key g j × (key j ≡ k)
-  pub none : ((j : ℕ) → r ≡ Found j → ⊥) → (j : ℕ) → j < g → key j ≡ k → ⊥
+pub record Finds (key : ℕ → Part) (g : ℕ) (k : Part) (r : Option ℕ) : Type 0 where
+  pub found : (j : ℕ) → r ≡ Some j → Leads key g j × (key j ≡ k)
+  pub none : r ≡ None → (j : ℕ) → j < g → key j ≡ k → ⊥
 
 -- every slot names a key of the run of words
 pub record Within (t : List ℕ) (layout : Layout) (base : ℕ) (slots : List ℕ) : Type 0 where
@@ -52,7 +52,3 @@ portion size = (size + 1) / 2
 -- between two calls: a table of n entries that is one portion is entered whole
 pub record Ready (t : List ℕ) (layout : Layout) (n : ℕ) (slots : List ℕ) : Type 0 where
   pub held : n ≤ portion (length slots) → Held (shift (key_at t layout) 0) n slots
-
--- a run that holds one number, up to i
-pub record Filled (v i : ℕ) (t : List ℕ) : Type 0 where
-  pub at : (k : ℕ) → k < i → get_or t k 0 ≡ v

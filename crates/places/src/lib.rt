@@ -4,6 +4,10 @@
 mod closes;
 mod index;
 pub mod key;
+mod keys;
+mod portion;
 pub mod resolve;
 mod stream;
+mod table;
+mod tables;
 mod whole;

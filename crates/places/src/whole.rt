@@ -1,16 +1,18 @@
 // Trees whose two tables are both indexed whole: all their indices in one pass.
-ghost use Rattle.std.specs.Prelude.{◌≡◌, true, ◌+◌, ◌-◌, ◌<◌, ◌≤◌, length, get_or};
+ghost use Rattle.std.specs.Prelude.{◌≡◌, true, ◌+◌, ◌<◌, ◌≤◌, length, get_or};
 ghost use Rattle.format.specs.WordList.{word_of, raw_from, list_count};
 ghost use Rattle.format.specs.Writer.{find, raw_of};
 ghost use Rattle.places.specs.Key.{part_of, key_at, key_count, is_key, named};
-ghost use Rattle.places.specs.Index.{Loaded};
-ghost use Rattle.places.specs.declared.key.Layout.TheVariants.{Parts, Symbols, Open, Close, Name};
-ghost use Rattle.places.specs.Places.{below_root, Resolved, Whole};
+ghost use Rattle.places.specs.declared.key.Layout.TheVariants.{Parts, Symbols, Close, Name};
+ghost use Rattle.places.specs.Places.{Resolved, Whole};
+ghost use Rattle.places.specs.Tables.{mode_below};
 
-use crate::index::find_key;
-use crate::key::{Key, Layout, is_named, key_at, same_key, symbol_key};
-use slots::probe::Looked;
+use crate::index::Index;
+use crate::key::{Key, Layout, is_named, key_at, symbol_key};
+use crate::keys::Keys;
+use crate::tables::Tables;
 use width::TREE_WORDS;
+use width::sort::LITERAL;
 
 // What a tree does not use may be any.
 #[derive(Clone, Copy)]
@@ -20,176 +22,133 @@ pub struct Indices {
     pub symbol: u32,
 }
 
-fn narrow(x: usize) -> u32
-    requires { x < 4294967296 }
-    ensures { result ≡ x }
-{
-    x as u32
+// Tables with all their entries in slots.
+#[derive(Clone, Copy)]
+pub(crate) struct WholeTables<'a> {
+    pub tables: Tables<'a>,
+    pub part_slots: &'a [u32],
+    pub symbol_slots: &'a [u32],
+    ghost whole: { Whole tables.limit tables.parts.now tables.symbols.now part_slots.now
+        symbol_slots.now },
 }
 
-// A key's first place among the g entries of a table.
-fn place_in(t: &[u32], table: Layout, slots: &[u32], g: usize, k: Key) -> u32
-    requires { Loaded t.now table 0 g slots.now }
-    ensures { result ≡ find (is_key (key_at t.now table) (part_of k)) g 0 }
-{
-    match find_key(t, table, 0, slots, g, k) {
-        Looked::Found(j) => narrow(j),
-        Looked::Empty(_) => narrow(g),
-        Looked::Full => narrow(g),
+impl<'a> WholeTables<'a> {
+    // A part's first place below the limit.
+    #[tactic(auto, using(crate::proofs::WholeReturns::place_cases))]
+    fn part_place(&self, k: Key) -> u32
+        ensures { result ≡ find (is_key (key_at self.now.tables.parts.now Parts) (part_of k)) self.now.tables.limit 0 }
+    {
+        let keys = Keys {
+            words: self.tables.parts,
+            layout: Layout::Parts,
+            base: 0,
+        };
+        let index = Index {
+            keys,
+            len: self.tables.limit,
+            slots: self.part_slots,
+        };
+        index.place(k)
+    }
+
+    #[tactic(auto, using(crate::proofs::WholeReturns::place_cases))]
+    fn symbol_place(&self, k: Key) -> u32
+        ensures { result ≡ find (is_key (key_at self.now.tables.symbols.now Symbols) (part_of k))
+            (length self.now.tables.symbols.now) 0 }
+    {
+        let keys = Keys {
+            words: self.tables.symbols,
+            layout: Layout::Symbols,
+            base: 0,
+        };
+        let index = Index {
+            keys,
+            len: self.tables.symbols.len(),
+            slots: self.symbol_slots,
+        };
+        index.place(k)
+    }
+
+    // The close part's place: as a rule it is the open part's, which is o.
+    fn close_place(&self, opening: Key, closing: Key, o: u32) -> u32
+        requires { o ≡ find (is_key (key_at self.now.tables.parts.now Parts) (part_of opening))
+            self.now.tables.limit 0 }
+        ensures { result ≡ find (is_key (key_at self.now.tables.parts.now Parts) (part_of closing))
+            self.now.tables.limit 0 }
+    {
+        if closing == opening {
+            o
+        } else {
+            self.part_place(closing)
+        }
     }
 }
 
 // The close part of a subtree; of a leaf, which has none, the open one.
-fn close_or_open(l: &[u32], n: usize, sort: u32) -> Key
-    requires { (n < key_count l.now Open) × (n < key_count l.now Close) }
+fn close_or_open(l: &[u32], n: usize, sort: u32, opening: Key) -> Key
+    requires { n < key_count l.now Close }
     ensures { (2 < sort) → (part_of result ≡ key_at l.now Close n) }
 {
-    let opening = key_at(l, Layout::Open, n);
     let closing = key_at(l, Layout::Close, n);
-    if sort <= 2 {
-        return opening;
-    }
-    closing
-}
-
-// The close part's place: as a rule it is the open part's, which is o.
-fn close_place(
-    l: &[u32],
-    n: usize,
-    sort: u32,
-    parts: &[u32],
-    slots: &[u32],
-    g: usize,
-    o: u32,
-) -> u32
-    requires loaded { Loaded parts.now Parts 0 g slots.now }
-    requires n_bound { (n < key_count l.now Open) × (n < key_count l.now Close) }
-    requires o_value { o ≡ find (is_key (key_at parts.now Parts) (key_at l.now Open n)) g 0 }
-    ensures { (2 < sort) → (result ≡ find (is_key (key_at parts.now Parts)
-        (key_at l.now Close n)) g 0) }
-{
-    let opening = key_at(l, Layout::Open, n);
-    let closing = close_or_open(l, n, sort);
-    if same_key(closing, opening) {
-        return o;
-    }
-    place_in(parts, Layout::Parts, slots, g, closing)
-}
-
-fn first_of(symbols: &[u32]) -> u32
-    ensures { result ≡ get_or symbols.now 0 0 }
-{
-    if symbols.len() == 0 {
-        return 0;
-    }
-    symbols[0]
+    if sort <= LITERAL { opening } else { closing }
 }
 
 // The symbol of a tree that has one; of another, the first of the table, which is found at once.
+#[tactic(auto, using(crate::proofs::WholeReturns::pick_cases))]
 fn name_or_first(l: &[u32], n: usize, sort: u32, symbols: &[u32]) -> Key
     requires { n < key_count l.now Name }
     ensures { (named sort ≡ true) → (part_of result ≡ key_at l.now Name n) }
 {
     let name = key_at(l, Layout::Name, n);
-    let other = symbol_key(first_of(symbols));
-    if is_named(sort) {
-        return name;
-    }
-    other
-}
-
-fn name_place(l: &[u32], n: usize, sort: u32, symbols: &[u32], slots: &[u32]) -> u32
-    requires loaded { Loaded symbols.now Symbols 0 (length symbols.now) slots.now }
-    requires n_bound { n < key_count l.now Name }
-    ensures { (named sort ≡ true) → (result ≡ find (is_key (key_at symbols.now Symbols)
-        (key_at l.now Name n)) (length symbols.now) 0) }
-{
-    let k = name_or_first(l, n, sort, symbols);
-    place_in(symbols, Layout::Symbols, slots, symbols.len(), k)
+    let first = symbol_key(if symbols.is_empty() { 0 } else { symbols[0] });
+    if is_named(sort) { name } else { first }
 }
 
 // No branch by the sort: which part and which symbol is looked for, is.
-fn tree_indices(
-    l: &[u32],
-    n: usize,
-    limit: usize,
-    parts: &[u32],
-    symbols: &[u32],
-    part_slots: &[u32],
-    symbol_slots: &[u32],
-) -> Indices
-    requires whole { Whole limit parts.now symbols.now part_slots.now symbol_slots.now }
-    requires n_bound { (n < list_count l.now) × (1 ≤ n) }
+#[tactic(auto, using(crate::proofs::WholeReturns::tree_indices_cases))]
+fn tree_indices(whole: &WholeTables, l: &[u32], n: usize) -> Indices
+    requires { (n < list_count l.now) × (1 ≤ n) }
     ensures { raw_from result.opening result.closing result.symbol (word_of l.now n) ≡ raw_of
-        (below_root limit parts.now symbols.now) l.now n }
+        (mode_below whole.now.tables) l.now n }
 {
     let sort = l[TREE_WORDS * n];
-    let k = key_at(l, Layout::Open, n);
-    let o = place_in(parts, Layout::Parts, part_slots, limit, k);
-    let c = close_place(l, n, sort, parts, part_slots, limit, o);
-    let y = name_place(l, n, sort, symbols, symbol_slots);
+    let opening = key_at(l, Layout::Open, n);
+    let closing = close_or_open(l, n, sort, opening);
+    let name = name_or_first(l, n, sort, whole.tables.symbols);
+    let o = whole.part_place(opening);
     Indices {
         opening: o,
-        closing: c,
-        symbol: y,
+        closing: whole.close_place(opening, closing, o),
+        symbol: whole.symbol_place(name),
     }
 }
 
-// Tree from + i of a run: those before it are there.
-fn put(
+#[tactic(auto, using(crate::proofs::WholeReturns::resolve_whole_cases))]
+pub(crate) fn resolve_whole<'a>(
+    tables: Tables<'a>,
+    part_slots: &'a [u32],
+    symbol_slots: &'a [u32],
     l: &[u32],
-    limit: usize,
-    parts: &[u32],
-    symbols: &[u32],
     from: usize,
     opens: &mut [u32],
     closes: &mut [u32],
     syms: &mut [u32],
-    i: usize,
-    x: Indices,
 )
-    requires i_in_bounds { (i < length opens.old) × (i < length closes.old) × (i < length syms.old) }
-    requires i_value { raw_from x.opening x.closing x.symbol (word_of l.now (from + i)) ≡ raw_of
-        (below_root limit parts.now symbols.now) l.now (from + i) }
-    requires resolved { Resolved (below_root limit parts.now symbols.now) l.now from i opens.old closes.old
-        syms.old }
-    ensures { Resolved (below_root limit parts.now symbols.now) l.now from
-        (i + 1) opens.new closes.new syms.new }
-{
-    opens[i] = x.opening;
-    closes[i] = x.closing;
-    syms[i] = x.symbol;
-}
-
-pub(crate) fn resolve_whole(
-    l: &[u32],
-    limit: usize,
-    parts: &[u32],
-    symbols: &[u32],
-    from: usize,
-    part_slots: &[u32],
-    symbol_slots: &[u32],
-    opens: &mut [u32],
-    closes: &mut [u32],
-    syms: &mut [u32],
-)
-    requires whole { Whole limit parts.now symbols.now part_slots.now symbol_slots.now }
+    requires whole { Whole tables.limit tables.parts.now tables.symbols.now part_slots.now symbol_slots.now }
     requires le_from { (1 ≤ from) × (length closes.old ≡ length opens.old) ×
         (length syms.old ≡ length opens.old) }
-    ensures { Resolved (below_root limit parts.now symbols.now) l.now from
-        (length opens.old) opens.new closes.new syms.new }
+    ensures { Resolved (mode_below tables.entry) l.now from (length opens.old) opens.new closes.new syms.new }
 {
-    let k = l.len() / TREE_WORDS;
-    if k <= from {
-        return;
-    }
-    let mut i: usize = 0;
-    while i < opens.len() {
-        if k - from <= i {
-            return;
-        }
-        let x = tree_indices(l, from + i, limit, parts, symbols, part_slots, symbol_slots);
-        put(l, limit, parts, symbols, from, opens, closes, syms, i, x);
-        i = i + 1;
+    let whole = WholeTables {
+        tables,
+        part_slots,
+        symbol_slots,
+    };
+    let m = opens.len().min((l.len() / TREE_WORDS).saturating_sub(from));
+    for i in 0..m {
+        let x = tree_indices(&whole, l, from + i);
+        opens[i] = x.opening;
+        closes[i] = x.closing;
+        syms[i] = x.symbol;
     }
 }

@@ -7,6 +7,7 @@ use native.Mathlib.Omega.{arith}
 use borrow.Author.Tests.{leb-true}
 use lib.Dec.{leb, ltb}
 use lib.ListN.{length}
+use Rattle.std.specs.Prelude.{Result, Ok, Err}
 use Rattle.format.specs.Verdict.{Verdict, passed, refused, rule, Report, wrote, refusal, report}
 use Rattle.format.specs.Span.{Span}
 use Rattle.format.specs.Fields.{span_fits}
@@ -14,33 +15,31 @@ use Rattle.format.specs.Pack.{span_form, pack_span, span_report, span_packed}
 use Rattle.format.proofs.Each.{both, rule_passed}
 use Rattle.pack.specs.Answer.{packed_answer}
 use Rattle.pack.specs.Packing.{SpanPacked}
-use Rattle.pack.specs.declared.Packed.{Packed}
-use Rattle.pack.specs.declared.Packed.TheVariants.{Written, Refused}
 use Rattle.pack.proofs.Use.{never, written_same, span_unchanged}
 use Rattle.reference.specs.Lists.{listed_span, behind, packed_from, refused_code, bytes_code, AllPacked}
 
 -- ---- one answer and its report
 
-refused_same : (k l : ℕ) → Refused k ≡ Refused l → k ≡ l
+refused_same : (k l : ℕ) → ◌≡◌ {A = Result ℕ ℕ} (Err k) (Err l) → k ≡ l
 refused_same k l e = cc
 
-report_wrote : (v : Report) (n : ℕ) → Written n ≡ packed_answer v → v ≡ wrote n
+report_wrote : (v : Report) (n : ℕ) → Ok n ≡ packed_answer v → v ≡ wrote n
 unfolding packed_answer
 report_wrote (wrote m) n e = ap wrote (sym (written_same n m e))
-report_wrote (refusal k t) n e = never (Written n) n k refl e
+report_wrote (refusal k t) n e = never (Ok n) n k refl e
 
 -- the tree's number of the refusal is of no account
-refused_then : (v : Report) (k : ℕ) → Refused k ≡ packed_answer v → (rest : ℕ → Report × List ℕ) (b : List ℕ) (at : ℕ)
+refused_then : (v : Report) (k : ℕ) → Err k ≡ packed_answer v → (rest : ℕ → Report × List ℕ) (b : List ℕ) (at : ℕ)
     → (refused_code k ≡ bytes_code at (behind v rest b).0) × (b ≡ (behind v rest b).1)
 unfolding packed_answer bytes_code
-refused_then (wrote m) k e rest b at = never (Refused k) m k e refl
+refused_then (wrote m) k e rest b at = never (Err k) m k e refl
 refused_then (refusal l t) k e rest b at = (ap refused_code (refused_same k l e), refl)
 
 report_passed : (v : Verdict) (m n : ℕ) → report v m ≡ wrote n → (v ≡ passed) × (m ≡ n)
 report_passed passed m n e = (refl, cc)
 report_passed (refused k t) m n e = let z : ◌≡◌ {A = ℕ} 0 1 = cc in absurd (omega arith)
 
-module _ (b : List ℕ) (p : ℕ) (heavy : Bool) (x : ℕ) (s : Span) (r : Packed) (b' : List ℕ) (c : SpanPacked b p heavy x s r b') (n : ℕ) (e : r ≡ Written n) where
+module _ (b : List ℕ) (p : ℕ) (heavy : Bool) (x : ℕ) (s : Span) (r : Result ℕ ℕ) (b' : List ℕ) (c : SpanPacked b p heavy x s r b') (n : ℕ) (e : r ≡ Ok n) where
   wrote_is : span_report b p heavy x s ≡ wrote n
   wrote_is = report_wrote (span_report b p heavy x s) n (sym e ∙ c.answer)
 
@@ -69,7 +68,7 @@ module _ (b₀ : List ℕ) (at : ℕ) (ws : List ℕ) (x : ℕ) (heavy : Bool) (
       let g = ap (λ (m : ℕ). packed_from heavy x ws m 0 b₀ at) (sym d) ∙ f in
       record { answer = sym (ap (λ (y : Report × List ℕ). bytes_code at y.0) g); contents = sym (ap (λ (y : Report × List ℕ). y.1) g) }
 
-  module _ (h : j < count) (s : Span) (q : s ≡ listed_span ws j) (r : Packed) (b' : List ℕ) (c : SpanPacked b p heavy x s r b') where
+  module _ (h : j < count) (s : Span) (q : s ≡ listed_span ws j) (r : Result ℕ ℕ) (b' : List ℕ) (c : SpanPacked b p heavy x s r b') where
     abbrev rest : ℕ → Report × List ℕ
     rest n = packed_from heavy x ws (count - (j + 1)) (j + 1) (span_packed b p heavy x s) (p + n)
 
@@ -79,7 +78,7 @@ module _ (b₀ : List ℕ) (at : ℕ) (ws : List ℕ) (x : ℕ) (heavy : Bool) (
         let e : count - j ≡ suc (count - (j + 1)) = omega arith in
         i ∙ ap (λ (m : ℕ). packed_from heavy x ws m j b p) e ∙ rw q
 
-    pub all_refused : (k y : ℕ) → r ≡ Refused k → y ≡ refused_code k → AllPacked b₀ at ws x heavy y b'
+    pub all_refused : (k y : ℕ) → r ≡ Err k → y ≡ refused_code k → AllPacked b₀ at ws x heavy y b'
     all_refused k y e f =
         let u = refused_then (span_report b p heavy x s) k (sym e ∙ c.answer) rest b at in
         let g = ap (λ (m : ℕ). packed_from heavy x ws m 0 b₀ at) (sym d) ∙ all_step in
@@ -88,7 +87,7 @@ module _ (b₀ : List ℕ) (at : ℕ) (ws : List ℕ) (x : ℕ) (heavy : Bool) (
           contents = span_unchanged b p heavy x s r b' c k e ∙ u.1 ∙ sym (ap (λ (y : Report × List ℕ). y.1) g);
         }
 
-    pub all_on : (n : ℕ) → r ≡ Written n → packed_from heavy x ws count 0 b₀ at ≡ packed_from heavy x ws (count - (j + 1)) (j + 1) b' (p + n)
+    pub all_on : (n : ℕ) → r ≡ Ok n → packed_from heavy x ws count 0 b₀ at ≡ packed_from heavy x ws (count - (j + 1)) (j + 1) b' (p + n)
     all_on n e = all_step ∙ rw (wrote_is b p heavy x s r b' c n e) (rw c.contents)
 
 pub all_start : (b : List ℕ) (at : ℕ) (ws : List ℕ) (x : ℕ) (heavy : Bool) (count : ℕ) → packed_from heavy x ws count 0 b at ≡ packed_from heavy x ws (count - 0) 0 b at

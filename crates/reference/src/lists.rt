@@ -1,12 +1,13 @@
 // The spans of a list packed one behind the other from a place on, up to the first that is refused: the bytes written,
 // or 2^63 and the refusal's number. The spans before that one stay written; one or two words behind the last span are
-// not looked at. Two loops that differ in the packer alone.
+// not looked at. One loop over either packer, compiled with each.
 ghost use Rattle.std.specs.Prelude.{◌≡◌, ◌+◌, ◌*◌, ◌≤◌, length};
 ghost use Rattle.pack.specs.Answer.{span_of};
+ghost use Rattle.pack.specs.Packing.{SpanPacked};
 ghost use Rattle.reference.specs.Lists.{span_numbers, listed_span, refused_code, AllPacked};
 
 use crate::span::encode_span_by_form;
-use pack::Packed;
+use pack::row::Row;
 use pack::span::{PackedSpan, encode_span_no_map};
 
 // Index, start and length.
@@ -30,38 +31,62 @@ fn refused_code(number: u32) -> u64
     9223372036854775808 + number as u64
 }
 
-pub fn pack_all(out: &mut [u8], at: usize, spans: &[u32], extra: u32, heavy: bool) -> u64
-    ensures { AllPacked out.old at spans.now extra heavy result out.new }
-{
-    let count = spans.len() / SPAN_NUMBERS;
-    let mut place = at;
-    let mut j: usize = 0;
-    while j < count {
-        match encode_span_no_map(out, place, listed_span(spans, j), extra, heavy) {
-            Packed::Refused(number) => return refused_code(number),
-            Packed::Written(bytes) => {
-                place = place + bytes;
-                j = j + 1;
-            }
-        }
-    }
-    (place - at) as u64
+// What packs one span of a list.
+pub trait SpanPacker {
+    fn pack(
+        out: &mut [u8],
+        at: usize,
+        span: PackedSpan,
+        extra: u32,
+        heavy: bool,
+    ) -> Result<usize, Row>
+        ensures { SpanPacked out.old at heavy extra (span_of span) result out.new };
 }
 
-// The same by the reference.
-pub fn pack_all_by_form(out: &mut [u8], at: usize, spans: &[u32], extra: u32, heavy: bool) -> u64
+// The packer that all other crates call.
+pub struct ByRests;
+
+impl SpanPacker for ByRests {
+    fn pack(
+        out: &mut [u8],
+        at: usize,
+        span: PackedSpan,
+        extra: u32,
+        heavy: bool,
+    ) -> Result<usize, Row> {
+        encode_span_no_map(out, at, span, extra, heavy)
+    }
+}
+
+// The reference.
+pub struct ByForm;
+
+impl SpanPacker for ByForm {
+    fn pack(
+        out: &mut [u8],
+        at: usize,
+        span: PackedSpan,
+        extra: u32,
+        heavy: bool,
+    ) -> Result<usize, Row> {
+        encode_span_by_form(out, at, span, extra, heavy)
+    }
+}
+
+pub fn pack_all<P: SpanPacker>(
+    out: &mut [u8],
+    at: usize,
+    spans: &[u32],
+    extra: u32,
+    heavy: bool,
+) -> u64
     ensures { AllPacked out.old at spans.now extra heavy result out.new }
 {
-    let count = spans.len() / SPAN_NUMBERS;
     let mut place = at;
-    let mut j: usize = 0;
-    while j < count {
-        match encode_span_by_form(out, place, listed_span(spans, j), extra, heavy) {
-            Packed::Refused(number) => return refused_code(number),
-            Packed::Written(bytes) => {
-                place = place + bytes;
-                j = j + 1;
-            }
+    for j in 0..spans.len() / SPAN_NUMBERS {
+        match P::pack(out, place, listed_span(spans, j), extra, heavy) {
+            Err(number) => return refused_code(number),
+            Ok(bytes) => place += bytes,
         }
     }
     (place - at) as u64

@@ -1,4 +1,4 @@
--- What the answers of `set_token` mean: where it answers Replaced the outputs are admitted and read as the list with one leaf exchanged;
+-- What the answers of `set_token` mean: where it answers with sizes the outputs are admitted and read as the list with one leaf exchanged;
 -- it refuses where a row holds and nowhere else, and changes no output then.
 use Prim.Native.Nat.{ℕ, ◌*◌, ◌≤◌}
 use mathlib.Core.Path.{◌≡◌, refl, sym, ap, ◌∙◌, subst₃}
@@ -6,6 +6,7 @@ use mathlib.Core.List.{List}
 use native.Mathlib.Omega.{arith}
 use borrow.Author.Tests.{le-leb}
 use lib.ListN.{length, take, drop}
+use Rattle.std.proofs.Common.{Result, Ok, Err}
 use Rattle.format.specs.Verdict.{Verdict, passed, refused}
 use Rattle.format.specs.Word.{put}
 use Rattle.format.specs.Width.{part_size}
@@ -19,39 +20,36 @@ use Rattle.format.proofs.TableRuns.{run_take, run_drop}
 use Rattle.format.proofs.Exchange.{replace_passes, replace_list, leaf_only, work_room, out_room, ReplaceRow, refused_row, row_refused}
 use Rattle.tree.specs.Refusal.{verdict_answer}
 use Rattle.tree.specs.declared.refusal.Refusal.{Refusal}
-use Rattle.replace.specs.Report.{replace_answer}
+use Rattle.replace.specs.Report.{told_sizes, replace_answer}
 use Rattle.replace.specs.Replaced.{Replaced}
 use Rattle.replace.specs.Exchanged.{Exchanged}
-use Rattle.replace.specs.declared.report.ReplaceReport.{ReplaceReport}
-use Rattle.replace.specs.declared.report.ReplaceReport.TheVariants as answers
+use Rattle.replace.specs.declared.report.Sizes.{Sizes}
 
 -- ---- an answer tells its verdict
 
-replaced_refused : {A : Type 0} (i p s : ℕ) (x : Refusal) → answers.Replaced i p s ≡ answers.Refused x → A
-replaced_refused i p s x e = let z : ◌≡◌ {A = ℕ} 0 1 = cc in absurd (omega arith)
+pub same_sizes : (i p s j q t : ℕ) → told_sizes i p s ≡ told_sizes j q t → (i ≡ j) × (p ≡ q) × (s ≡ t)
+same_sizes i p s j q t e =
+    let f : record { bytes = i; parts = p; symbols = s } ≡ record { bytes = j; parts = q; symbols = t } = cc in
+    (ap (λ (x : Sizes). x.bytes) f, ap (λ (x : Sizes). x.parts) f, ap (λ (x : Sizes). x.symbols) f)
 
-pub same_sizes : (i p s j q t : ℕ) → answers.Replaced i p s ≡ answers.Replaced j q t → (i ≡ j) × (p ≡ q) × (s ≡ t)
-same_sizes i p s j q t e = (cc, cc, cc)
-
-same_refusal : (x y : Refusal) → answers.Refused x ≡ answers.Refused y → x ≡ y
-same_refusal x y e = cc
-
-pub answer_replaced : (l : List ℕ) (v : Verdict) (i p s : ℕ) → replace_answer (report_of l v) ≡ answers.Replaced i p s
+pub answer_replaced : (l : List ℕ) (v : Verdict) (i p s : ℕ) → replace_answer (report_of l v) ≡ told_sizes i p s
     → (v ≡ passed) × (length (fresh_bytes l) ≡ i) × (part_total l ≡ p) × (length (symbol_table l) ≡ s)
 unfolding replace_answer
 answer_replaced l passed i p s e =
     let q = same_sizes (length (fresh_bytes l)) (part_total l) (length (symbol_table l)) i p s e in
     (refl, q.0, q.1, q.2)
-answer_replaced l (refused r m) i p s e = replaced_refused i p s _ (sym e)
+answer_replaced l (refused r m) i p s e = cc
 
-pub answer_refused : (l : List ℕ) (v : Verdict) (x : Refusal) → replace_answer (report_of l v) ≡ answers.Refused x → v ≡ refused x.number x.tree
+pub answer_refused : (l : List ℕ) (v : Verdict) (x : Refusal) → replace_answer (report_of l v) ≡ Err x → v ≡ refused x.number x.tree
 unfolding replace_answer
-answer_refused l passed x e = replaced_refused _ _ _ x e
-answer_refused l (refused r m) x e = ap (λ (y : Refusal). refused y.number y.tree) (same_refusal _ x e)
+answer_refused l passed x e = cc
+answer_refused l (refused r m) x e =
+    let f : record { number = r; tree = m } ≡ x = cc in
+    ap (λ (y : Refusal). refused y.number y.tree) f
 
 -- ---- its answer r, and what the lent runs hold then
 
-module _ (b : List ℕ) (k : ℕ) (parts symbols : List ℕ) (n : ℕ) (w a c d x y z : List ℕ) (r : ReplaceReport) (a' c' d' x' y' z' : List ℕ)
+module _ (b : List ℕ) (k : ℕ) (parts symbols : List ℕ) (n : ℕ) (w a c d x y z : List ℕ) (r : Result Sizes Refusal) (a' c' d' x' y' z' : List ℕ)
     (R : Replaced b k parts symbols n w a c d x y z r a' c' d' x' y' z') where
   abbrev verdict : Verdict
   verdict = replace_out b k parts symbols n w (length a) (length c) (length d) x y z
@@ -59,7 +57,7 @@ module _ (b : List ℕ) (k : ℕ) (parts symbols : List ℕ) (n : ℕ) (w a c d 
   abbrev new : List ℕ
   new = exchanged b k parts symbols n w
 
-  module _ (i p s : ℕ) (e : r ≡ answers.Replaced i p s) where
+  module _ (i p s : ℕ) (e : r ≡ told_sizes i p s) where
     told : (verdict ≡ passed) × (length (fresh_bytes new) ≡ i) × (part_total new ≡ p) × (length (symbol_table new) ≡ s)
     told = answer_replaced new verdict i p s (sym R.answer ∙ e)
 
@@ -96,22 +94,22 @@ module _ (b : List ℕ) (k : ℕ) (parts symbols : List ℕ) (n : ℕ) (w a c d 
   pub replaced_given : replace_verdict b k parts symbols n w ≡ passed → list_work k ≤ length a → table_work k ≤ length c → count_work k ≤ length d
       → length (fresh_bytes (exchanged b k parts symbols n w)) ≤ length x → length (part_table (exchanged b k parts symbols n w)) ≤ length y
       → length (symbol_table (exchanged b k parts symbols n w)) ≤ length z
-      → r ≡ answers.Replaced (length (fresh_bytes (exchanged b k parts symbols n w))) (part_total (exchanged b k parts symbols n w)) (length (symbol_table (exchanged b k parts symbols n w)))
+      → r ≡ told_sizes (length (fresh_bytes (exchanged b k parts symbols n w))) (part_total (exchanged b k parts symbols n w)) (length (symbol_table (exchanged b k parts symbols n w)))
   unfolding replace_answer replace_out replace_work
   replaced_given ok ha hc hd hx hy hz =
       R.answer ∙ simp (ok, le-leb _ _ ha, le-leb _ _ hc, le-leb _ _ hd, le-leb _ _ hx, le-leb _ _ hy, le-leb _ _ hz)
 
   -- each refusal is given exactly where its row holds …
-  pub refused_is : (q : Refusal) → r ≡ answers.Refused q → ReplaceRow b k parts symbols n w (length a) (length c) (length d) x y z q.number q.tree
+  pub refused_is : (q : Refusal) → r ≡ Err q → ReplaceRow b k parts symbols n w (length a) (length c) (length d) x y z q.number q.tree
   refused_is q e =
       refused_row b k parts symbols n w (length a) (length c) (length d) x y z q.number q.tree (answer_refused new verdict q (sym R.answer ∙ e))
 
-  pub refused_given : (i t : ℕ) → ReplaceRow b k parts symbols n w (length a) (length c) (length d) x y z i t → r ≡ answers.Refused (record { number = i; tree = t })
+  pub refused_given : (i t : ℕ) → ReplaceRow b k parts symbols n w (length a) (length c) (length d) x y z i t → r ≡ Err (record { number = i; tree = t })
   unfolding replace_answer
   refused_given i t h = R.answer ∙ rw (row_refused b k parts symbols n w (length a) (length c) (length d) x y z i t h)
 
   -- … and changes no output
-  pub refused_kept : (q : Refusal) → r ≡ answers.Refused q → (x' ≡ x) × (y' ≡ y) × (z' ≡ z)
+  pub refused_kept : (q : Refusal) → r ≡ Err q → (x' ≡ x) × (y' ≡ y) × (z' ≡ z)
   refused_kept q e =
       let v = answer_refused new verdict q (sym R.answer ∙ e) in
       (R.runs.bytes ∙ rw v, R.runs.part_words ∙ rw v, R.runs.symbol_words ∙ rw v)

@@ -6,6 +6,7 @@ use mathlib.Core.List.{List}
 use native.Mathlib.Omega.{arith}
 use borrow.Author.Tests.{not-true, not-false}
 use lib.ListN.{length, take, drop}
+use Rattle.std.specs.Prelude.{Result, Ok, Err, ⊤}
 use Rattle.format.specs.Verdict.{Verdict, passed, refused}
 use Rattle.format.specs.Word.{put}
 use Rattle.format.specs.Width.{tree_size}
@@ -20,15 +21,11 @@ use Rattle.format.proofs.ListOf.{list_length}
 use Rattle.format.proofs.Exchange.{replace_check, replace_below, exchanged_count, exchanged_rows, work_room}
 use Rattle.tree.specs.Refusal.{verdict_answer}
 use Rattle.tree.specs.declared.refusal.Refusal.{Refusal}
-use Rattle.tree.specs.declared.refusal.Verdict.{Verdict as Answer}
-use Rattle.tree.specs.declared.refusal.Verdict.TheVariants.{Passed, Refused}
 use Rattle.tree.proofs.Answers.{answer_passed, answer_refused}
 use Rattle.replace.specs.Fresh.{Held, Tabled}
 use Rattle.replace.specs.Left.{worked, Left}
 use Rattle.replace.specs.Prepared.{ListPut, NewMade, prepared_of, PreparedIn}
 use Rattle.replace.specs.declared.fresh.Counted.{Counted}
-use Rattle.replace.specs.declared.prepare.Prepared.{Prepared}
-use Rattle.replace.specs.declared.prepare.Prepared.TheVariants as answers
 use Rattle.unpack.proofs.WorkReturns.{work_ample}
 use Rattle.builder.proofs.Pushed.{words_whole}
 
@@ -79,8 +76,8 @@ module _ (b : List ℕ) (k : ℕ) (parts symbols : List ℕ) (n : ℕ) (w : List
   pub list_is : take (tree_size * p - 0) (drop 0 a₁) ≡ exchanged b k parts symbols n w
   list_is = let s : tree_size * p - 0 ≡ tree_size * k = omega arith in rw s L.words
 
-  count_is : list_count (take (tree_size * p - 0) (drop 0 a₁)) ≡ k
-  count_is = ap list_count list_is ∙ exchanged_count b k parts symbols n w ok
+  listed_count : list_count (take (tree_size * p - 0) (drop 0 a₁)) ≡ k
+  listed_count = ap list_count list_is ∙ exchanged_count b k parts symbols n w ok
 
   pub list_inside : length a₁ ≡ length a → tree_size * p ≤ length a₁
   list_inside q = omega arith
@@ -89,10 +86,10 @@ module _ (b : List ℕ) (k : ℕ) (parts symbols : List ℕ) (n : ℕ) (w : List
   new_rows = ap list_rows list_is ∙ exchanged_rows b k parts symbols n w ok
 
   pub tables_enough : (c : List ℕ) → table_work k ≤ length c → table_work (list_count (take (tree_size * p - 0) (drop 0 a₁))) ≤ length c
-  tables_enough c g = subst (λ (i : ℕ). table_work i ≤ length c) (sym count_is) g
+  tables_enough c g = subst (λ (i : ℕ). table_work i ≤ length c) (sym listed_count) g
 
   pub counts_enough : (d : List ℕ) → count_work k ≤ length d → count_work (list_count (take (tree_size * p - 0) (drop 0 a₁))) ≤ length d
-  counts_enough d g = subst (λ (i : ℕ). count_work i ≤ length d) (sym count_is) g
+  counts_enough d g = subst (λ (i : ℕ). count_work i ≤ length d) (sym listed_count) g
 
   pub new_made : (c d : List ℕ) (r : Counted) (c' d' : List ℕ) → Tabled (take (tree_size * p - 0) (drop 0 a₁)) r c c' d d' → NewMade b k parts symbols n w a c d r a₁ c' d'
   new_made c d r c' d' T = record { listed = L; tabled = subst (λ (l : List ℕ). Tabled l r c c' d d') list_is T }
@@ -101,34 +98,27 @@ pub ruleset new_cases = (list_inside, new_rows, tables_enough, counts_enough, ne
 
 -- ---- the answer
 
-made_refused : {A : Type 0} (t : Counted) (x : Refusal) → answers.Made t ≡ answers.Refused x → A
-made_refused t x e = let z : ◌≡◌ {A = ℕ} 0 1 = cc in absurd (omega arith)
-
-same_tables : (t u : Counted) → answers.Made t ≡ answers.Made u → t ≡ u
-same_tables t u e = cc
-
-same_refusal : (x y : Refusal) → answers.Refused x ≡ answers.Refused y → x ≡ y
-same_refusal x y e = cc
-
-pub prepared_passed : (l : List ℕ) (v : Verdict) (t : Counted) → prepared_of l v ≡ answers.Made t → v ≡ passed
+pub prepared_passed : (l : List ℕ) (v : Verdict) (t : Counted) → prepared_of l v ≡ Ok t → v ≡ passed
 unfolding prepared_of
 prepared_passed l passed t e = refl
-prepared_passed l (refused r m) t e = made_refused t _ (sym e)
+prepared_passed l (refused r m) t e = cc
 
-pub prepared_refused : (l : List ℕ) (v : Verdict) (x : Refusal) → prepared_of l v ≡ answers.Refused x → v ≡ refused x.number x.tree
+pub prepared_refused : (l : List ℕ) (v : Verdict) (x : Refusal) → prepared_of l v ≡ Err x → v ≡ refused x.number x.tree
 unfolding prepared_of
-prepared_refused l passed x e = made_refused _ x e
-prepared_refused l (refused r m) x e = ap (λ (y : Refusal). refused y.number y.tree) (same_refusal _ x e)
+prepared_refused l passed x e = cc
+prepared_refused l (refused r m) x e =
+    let f : record { number = r; tree = m } ≡ x = cc in
+    ap (λ (y : Refusal). refused y.number y.tree) f
 
-pub rows_passed : (b : List ℕ) (k : ℕ) (parts symbols : List ℕ) (n : ℕ) (w : List ℕ) (v : Answer) → v ≡ verdict_answer (replace_verdict b k parts symbols n w) → v ≡ Passed
+pub rows_passed : (b : List ℕ) (k : ℕ) (parts symbols : List ℕ) (n : ℕ) (w : List ℕ) (v : Result ⊤ Refusal) → v ≡ verdict_answer (replace_verdict b k parts symbols n w) → v ≡ Ok tt
     → replace_verdict b k parts symbols n w ≡ passed
 rows_passed b k parts symbols n w v e q = answer_passed (replace_verdict b k parts symbols n w) (sym e ∙ q)
 
 module _ (b : List ℕ) (k : ℕ) (parts symbols : List ℕ) (n : ℕ) (w a c d : List ℕ) where
-  abbrev Rest : Prepared → Type 0
+  abbrev Rest : Result Counted Refusal → Type 0
   Rest r = PreparedIn b k parts symbols n w a c d r a c d
 
-  none_made : (r m : ℕ) → worked b k parts symbols n w a c d ≡ refused r m → Rest (answers.Refused (record { number = r; tree = m }))
+  none_made : (r m : ℕ) → worked b k parts symbols n w a c d ≡ refused r m → Rest (Err (record { number = r; tree = m }))
   unfolding prepared_of
   none_made r m e =
       record {
@@ -138,18 +128,18 @@ module _ (b : List ℕ) (k : ℕ) (parts symbols : List ℕ) (n : ℕ) (w a c d 
           tables_left = record { kept = rw e; behind = refl };
           counts_left = record { kept = rw e; behind = refl };
         };
-        made = λ t q. made_refused t _ (sym q);
+        made = λ t q. cc;
       }
 
-  module _ (v : Answer) (e : v ≡ verdict_answer (replace_verdict b k parts symbols n w)) where
-    pub rows_refused : (why : Refusal) → v ≡ Refused why → Rest (answers.Refused why)
+  module _ (v : Result ⊤ Refusal) (e : v ≡ verdict_answer (replace_verdict b k parts symbols n w)) where
+    pub rows_refused : (why : Refusal) → v ≡ Err why → Rest (Err why)
     unfolding replace_work
     rows_refused why q =
         let f = answer_refused (replace_verdict b k parts symbols n w) why (sym e ∙ q) in
         none_made why.number why.tree (rw f)
 
-    module _ (q : v ≡ Passed) (u : Bool) (g : u ≡ work_fits k (length a) (length c) (length d)) where
-      pub work_short : not u ≡ true → Rest (answers.Refused (record { number = 6; tree = 0 }))
+    module _ (q : v ≡ Ok tt) (u : Bool) (g : u ≡ work_fits k (length a) (length c) (length d)) where
+      pub work_short : not u ≡ true → Rest (Err (record { number = 6; tree = 0 }))
       unfolding replace_work
       work_short f =
           let o = rows_passed b k parts symbols n w v e q in
@@ -164,31 +154,31 @@ module _ (b : List ℕ) (k : ℕ) (parts symbols : List ℕ) (n : ℕ) (w a c d 
           simp (o, j)
 
       pub all_made : not u ≡ false → (t : Counted) (a' c' d' : List ℕ) → NewMade b k parts symbols n w a c d t a' c' d'
-          → PreparedIn b k parts symbols n w a c d (answers.Made t) a' c' d'
+          → PreparedIn b k parts symbols n w a c d (Ok t) a' c' d'
       unfolding prepared_of
       all_made f t a' c' d' N =
           let y = works f in
           let H = N.tabled.held in
           let m = exchanged_count b k parts symbols n w (rows_passed b k parts symbols n w v e q) in
           record {
-            answer = (λ i. answers.Made (record { parts = H.parts i; symbols = H.symbols i })) ∙ rw y;
+            answer = (λ i. Ok (record { parts = H.parts i; symbols = H.symbols i })) ∙ rw y;
             left = record {
               list_left = record { kept = rw y; behind = N.listed.behind };
               tables_left = record { kept = rw y; behind = subst (λ (i : ℕ). drop (table_work i) c' ≡ drop (table_work i) c) m N.tabled.tables_behind };
               counts_left = record { kept = rw y; behind = subst (λ (i : ℕ). drop (count_work i) d' ≡ drop (count_work i) d) m N.tabled.counts_behind };
             };
-            made = λ s j. subst (λ (u : Counted). NewMade b k parts symbols n w a c d u a' c' d') (same_tables t s j) N;
+            made = λ s j. subst (λ (u : Counted). NewMade b k parts symbols n w a c d u a' c' d') (cc) N;
           }
 
 pub ruleset prepare_cases = (rows_refused, rows_passed, work_short, all_made, work_ample, kept)
 
 -- ---- what a caller has of it
 
-module _ (b : List ℕ) (k : ℕ) (parts symbols : List ℕ) (n : ℕ) (w a c d : List ℕ) (q : Prepared) (a₁ c₁ d₁ : List ℕ) (P : PreparedIn b k parts symbols n w a c d q a₁ c₁ d₁) where
-  pub why_refused : (why : Refusal) → q ≡ answers.Refused why → worked b k parts symbols n w a c d ≡ refused why.number why.tree
+module _ (b : List ℕ) (k : ℕ) (parts symbols : List ℕ) (n : ℕ) (w a c d : List ℕ) (q : Result Counted Refusal) (a₁ c₁ d₁ : List ℕ) (P : PreparedIn b k parts symbols n w a c d q a₁ c₁ d₁) where
+  pub why_refused : (why : Refusal) → q ≡ Err why → worked b k parts symbols n w a c d ≡ refused why.number why.tree
   why_refused why e = prepared_refused (exchanged b k parts symbols n w) (worked b k parts symbols n w a c d) why (sym P.answer ∙ e)
 
-  module _ (t : Counted) (e : q ≡ answers.Made t) where
+  module _ (t : Counted) (e : q ≡ Ok t) where
     pub work_passed : worked b k parts symbols n w a c d ≡ passed
     work_passed = prepared_passed (exchanged b k parts symbols n w) (worked b k parts symbols n w a c d) t (sym P.answer ∙ e)
 
@@ -208,20 +198,22 @@ module _ (b : List ℕ) (k : ℕ) (parts symbols : List ℕ) (n : ℕ) (w a c d 
       pub there_held : Held (take (tree_size * p - 0) (drop 0 a₁)) t c₁
       there_held = subst (λ (l : List ℕ). Held l t c₁) (sym there_is) (P.made t e).tabled.held
 
-      pub there_counts : length d₁ ≡ length d → count_work (list_count (take (tree_size * p - 0) (drop 0 a₁))) ≤ length d₁
-      there_counts r =
-          counts_enough b k parts symbols n w rooms.0 a a₁ rooms.1 (P.made t e).listed p j d₁ (subst (λ (i : ℕ). count_work k ≤ i) (sym r) rooms.3)
+      -- of the list as it is handed on
+      module _ (m : List ℕ) (o : m ≡ take (tree_size * p - 0) (drop 0 a₁)) where
+        count_is : list_count m ≡ k
+        count_is = ap list_count (o ∙ there_is) ∙ exchanged_count b k parts symbols n w rooms.0
 
-      -- the counts are overwritten once more
-      pub left_then : (d₂ : List ℕ) → drop (count_work (list_count (take (tree_size * p - 0) (drop 0 a₁)))) d₂ ≡ drop (count_work (list_count (take (tree_size * p - 0) (drop 0 a₁)))) d₁
-          → Left b k parts symbols n w a c d a₁ c₁ d₂
-      left_then d₂ f =
-          let y = work_passed in
-          let m = ap list_count there_is ∙ exchanged_count b k parts symbols n w rooms.0 in
-          record {
-            list_left = P.left.list_left;
-            tables_left = P.left.tables_left;
-            counts_left = record { kept = rw y; behind = subst (λ (i : ℕ). drop (count_work i) d₂ ≡ drop (count_work i) d₁) m f ∙ P.left.counts_left.behind };
-          }
+        pub there_counts : length d₁ ≡ length d → count_work (list_count m) ≤ length d₁
+        there_counts r = let h = rooms.3 in let e = count_is in omega arith
+
+        -- the counts are overwritten once more
+        pub left_then : (d₂ : List ℕ) → drop (count_work (list_count m)) d₂ ≡ drop (count_work (list_count m)) d₁ → Left b k parts symbols n w a c d a₁ c₁ d₂
+        left_then d₂ f =
+            let y = work_passed in
+            record {
+              list_left = P.left.list_left;
+              tables_left = P.left.tables_left;
+              counts_left = record { kept = rw y; behind = subst (λ (i : ℕ). drop (count_work i) d₂ ≡ drop (count_work i) d₁) count_is f ∙ P.left.counts_left.behind };
+            }
 
 pub ruleset there_cases = (there_inside, there_rows, there_held, there_counts)

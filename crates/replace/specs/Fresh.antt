@@ -1,5 +1,5 @@
 -- A list's own tables in work words, and its tables and bytes in the outputs.
-use Rattle.std.specs.Prelude.{ℕ, ◌*◌, ◌≤◌, Bool, true, false, ◌≡◌, List, length, take, drop, leb, eqb, if◌then◌else◌}
+use Rattle.std.specs.Prelude.{ℕ, ◌*◌, ◌≤◌, ◌≡◌, List, length, take, drop, Result}
 use Rattle.format.specs.Verdict.{Verdict, contents, rule}
 use Rattle.format.specs.Word.{put}
 use Rattle.format.specs.Width.{part_size}
@@ -7,11 +7,9 @@ use Rattle.format.specs.WordList.{list_count}
 use Rattle.format.specs.MakeTables.{part_table, symbol_table, symbol_counts, part_total}
 use Rattle.format.specs.Replace.{fresh_bytes, out_fits, report_of}
 use Rattle.format.specs.Unpack.{table_work, count_work}
-use Rattle.tree.specs.declared.refusal.Report.{Report}
-use Rattle.tree.specs.declared.refusal.Report.TheVariants as reports
-use Rattle.writer.specs.Written.{Written}
+use Rattle.tree.specs.declared.refusal.Refusal.{Refusal}
 use Rattle.replace.specs.Report.{replace_answer}
-use Rattle.replace.specs.declared.report.ReplaceReport.{ReplaceReport}
+use Rattle.replace.specs.declared.report.Sizes.{Sizes}
 use Rattle.replace.specs.declared.fresh.Counted.{Counted}
 
 -- the symbols of k trees stand behind room for two parts a tree
@@ -38,40 +36,19 @@ pub record Tabled (l : List ℕ) (r : Counted) (t t' c c' : List ℕ) : Type 0 w
   pub tables_behind : drop (table_work (list_count l)) t' ≡ drop (table_work (list_count l)) t
   pub counts_behind : drop (count_work (list_count l)) c' ≡ drop (count_work (list_count l)) c
 
--- one of the tables p and s is stored: number 1 are the parts, 2 the symbols
-pub record TablePut (number : ℕ) (p s y z y' z' : List ℕ) : Type 0 where
-  pub parts : y' ≡ (if eqb number 1 then put y 0 p else y)
-  pub symbols : z' ≡ (if eqb number 1 then z else put z 0 s)
-
--- how many tables have entries, s being the symbols
-abbrev pub tables_of : List ℕ → ℕ
-tables_of s = if eqb (length s) 0 then 1 else 2
-
--- what an output for a table holds: the table, if it is one of those to be stored and the bytes are written
-abbrev pub stored : Bool → Report → List ℕ → List ℕ → List ℕ
-stored false r old new = old
-stored true (reports.Wrote n) old new = put old 0 new
-stored true (reports.Refused x) old new = old
-
--- bytes, and the first t of the tables p and s
-pub record OutputsPut (l p s c x y z : List ℕ) (t : ℕ) (r : Report) (c' x' y' z' : List ℕ) : Type 0 where
-  pub written : Written p s l c x r c' x'
-  pub parts : y' ≡ stored (leb 1 t) r y p
-  pub symbols : z' ≡ stored (leb 2 t) r z s
-
 module _ (l x y z : List ℕ) where
   -- row 6 for the outputs
   abbrev pub out_row : Verdict
   out_row = rule (out_fits l x y z) 6 0
 
   -- bytes, part words and symbols of l
-  pub record Outputs (r : ReplaceReport) (x' y' z' : List ℕ) : Type 0 where
+  pub record Outputs (r : Result Sizes Refusal) (x' y' z' : List ℕ) : Type 0 where
     pub answer : r ≡ replace_answer (report_of l out_row)
     pub bytes : x' ≡ contents out_row x (put x 0 (fresh_bytes l))
     pub parts : y' ≡ contents out_row y (put y 0 (part_table l))
     pub symbols : z' ≡ contents out_row z (put z 0 (symbol_table l))
 
   -- … and the counts' work words
-  pub record Put (r : ReplaceReport) (c c' x' y' z' : List ℕ) : Type 0 where
+  pub record Put (r : Result Sizes Refusal) (c c' x' y' z' : List ℕ) : Type 0 where
     pub outputs : Outputs r x' y' z'
     pub counts_behind : drop (count_work (list_count l)) c' ≡ drop (count_work (list_count l)) c

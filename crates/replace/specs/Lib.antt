@@ -1,5 +1,6 @@
 pub mod Report
 pub mod Left
+pub mod Own
 pub mod Fresh
 pub mod Prepared
 pub mod Replaced

@@ -1,54 +1,33 @@
 // What is asked before the work words: the buffer, the tree number, the leaf.
 ghost use Rattle.std.specs.Prelude.{◌≡◌};
-ghost use Rattle.format.specs.Verdict.{passed};
-ghost use Rattle.format.specs.Buffer.{buffer_check};
 ghost use Rattle.format.specs.Replace.{replace_verdict};
 ghost use Rattle.tree.specs.Refusal.{verdict_answer};
 
+use crate::change::Change;
 use builder::range::words_fit;
 use checker::check::{check_buffer, refused};
-use tree::refusal::Verdict;
+use pack::row;
+use tree::refusal::Refusal;
 use unpack::leaf::is_leaf;
-use width::TREE_WORDS;
-
-// The number and the leaf, of a buffer that the check has passed.
-fn leaf_verdict(
-    b: &[u8],
-    trees: u32,
-    parts: &[u32],
-    symbols: &[u32],
-    number: u32,
-    leaf: &[u32; TREE_WORDS],
-) -> Verdict
-    requires { buffer_check b.now trees parts.now symbols.now ≡ passed }
-    ensures { result ≡ verdict_answer
-        (replace_verdict b.now trees parts.now symbols.now number
-        leaf.now) }
-{
-    if !is_leaf(b, trees, parts, symbols, number) {
-        return refused(10, number);
-    }
-    if !words_fit(leaf) {
-        return refused(2, number);
-    }
-    Verdict::Passed
-}
 
 // All that is refused but row 6.
-pub(crate) fn replace_verdict(
-    b: &[u8],
-    trees: u32,
-    parts: &[u32],
-    symbols: &[u32],
-    number: u32,
-    leaf: &[u32; TREE_WORDS],
-) -> Verdict
+pub(crate) fn replace_verdict(change: &Change) -> Result<(), Refusal>
     ensures { result ≡ verdict_answer
-        (replace_verdict b.now trees parts.now symbols.now number
-        leaf.now) }
+        (replace_verdict change.now.b.now change.now.trees change.now.parts.now change.now.symbols.now
+        change.now.number change.now.leaf.now) }
 {
-    match check_buffer(b, trees, parts, symbols) {
-        Verdict::Passed => leaf_verdict(b, trees, parts, symbols, number, leaf),
-        Verdict::Refused(why) => Verdict::Refused(why),
+    check_buffer(change.b, change.trees, change.parts, change.symbols)?;
+    if !is_leaf(
+        change.b,
+        change.trees,
+        change.parts,
+        change.symbols,
+        change.number,
+    ) {
+        return refused(row::STATE, change.number);
     }
+    if !words_fit(change.leaf) {
+        return refused(row::FIELD, change.number);
+    }
+    Ok(())
 }

@@ -2,11 +2,13 @@
 ghost use Rattle.builder.specs.Given.{pushed};
 ghost use Rattle.replace.specs.Replaced.{Replaced};
 
-use crate::fresh::put_made;
-use crate::prepare::{Prepared, prepare};
-use crate::report::ReplaceReport;
+use crate::change::Change;
+use crate::fresh::{own_tables, put_fresh};
+use crate::prepare::prepare;
+use crate::report::Sizes;
 use builder::range::leaf_words;
 use tree::raw::place;
+use tree::refusal::Refusal;
 use tree::types::Leaf;
 use width::TREE_WORDS;
 
@@ -24,7 +26,7 @@ pub fn set_token_words(
     out: &mut [u8],
     out_parts: &mut [u32],
     out_symbols: &mut [u32],
-) -> ReplaceReport
+) -> Result<Sizes, Refusal>
     ensures { Replaced b.now trees parts.now symbols.now number
         leaf.now
         list.old tables.old counts.old
@@ -32,21 +34,18 @@ pub fn set_token_words(
         list.new tables.new counts.new
         out.new out_parts.new out_symbols.new }
 {
-    match prepare(b, trees, parts, symbols, number, leaf, list, tables, counts) {
-        Prepared::Refused(why) => ReplaceReport::Refused(why),
-        Prepared::Made(made) => {
-            let end = TREE_WORDS * place(trees);
-            put_made(
-                &list[0..end],
-                made,
-                tables,
-                counts,
-                out,
-                out_parts,
-                out_symbols,
-            )
-        }
-    }
+    let change = Change {
+        b,
+        trees,
+        parts,
+        symbols,
+        number,
+        leaf,
+    };
+    let made = prepare(&change, list, tables, counts)?;
+    let end = TREE_WORDS * place(trees);
+    let own = own_tables(&list[0..end], made, tables);
+    put_fresh(&own, counts, out, out_parts, out_symbols)
 }
 
 pub fn set_token(
@@ -62,7 +61,7 @@ pub fn set_token(
     out: &mut [u8],
     out_parts: &mut [u32],
     out_symbols: &mut [u32],
-) -> ReplaceReport
+) -> Result<Sizes, Refusal>
     ensures { Replaced b.now trees parts.now symbols.now number (pushed leaf)
         list.old tables.old counts.old
         out.old out_parts.old out_symbols.old result

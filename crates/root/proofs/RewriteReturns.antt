@@ -1,13 +1,14 @@
 -- One law for each return, with premises as the code's tests and calls give them.
 use Prim.Native.Nat.{ℕ, suc, ◌+◌, ◌*◌, ◌-◌, ◌/◌, ◌%◌, ◌<◌, ◌≤◌}
-use mathlib.Core.Bool.{Bool, true, false, not, ◌&&◌}
+use mathlib.Core.Bool.{Bool, true, false, ◌&&◌}
 use mathlib.Core.Path.{◌≡◌, refl, sym, ap, ◌∙◌}
 use mathlib.Core.List.{List, [], ◌∷◌, ◌++◌}
 use native.Mathlib.Omega.{arith}
 use native.Mathlib.Numerals.{add-one}
-use borrow.Author.Tests.{le-leb, lt-leb, leb-true, not-true, not-false}
+use borrow.Author.Tests.{le-leb, lt-leb, leb-true}
 use lib.ListN.{length, set}
 use lib.Seq.{sets-eq}
+use Rattle.std.specs.Prelude.{Result, Ok, Err, ⊤}
 use Rattle.format.specs.Verdict.{Verdict, passed, refused, rule}
 use Rattle.format.specs.Width.{part_size}
 use Rattle.format.specs.Part.{part_words, indexed}
@@ -22,23 +23,20 @@ use Rattle.format.proofs.NewRoot.{root_of_lem, admitted, sizes}
 use Rattle.format.proofs.RootKind.{kind_unchecked, kind_high, kind_fits, kind_refused, kind_stored}
 use Rattle.format.proofs.RootSpans.{spans_unchecked, spans_high, spans_fit, spans_refused, spans_stored}
 use Rattle.pack.specs.Packing.{SpanPacked}
-use Rattle.pack.specs.declared.Packed.{Packed}
 use Rattle.pack.proofs.Store.{put_then}
 use Rattle.pack.proofs.Use.{heavy_contents}
 use Rattle.tree.specs.Refusal.{verdict_answer}
 use Rattle.tree.specs.Types.{words_of}
 use Rattle.tree.proofs.Answers.{answer_passed, answer_refused}
 use Rattle.tree.specs.declared.refusal.Refusal.{Refusal}
-use Rattle.tree.specs.declared.refusal.Verdict.{Verdict as Answer}
-use Rattle.tree.specs.declared.refusal.Verdict.TheVariants.{Passed, Refused}
 use Rattle.tree.specs.declared.types.Span as types
 use Rattle.checker.proofs.Admits.{passes}
 use Rattle.root.specs.Rewrite.{KindSet, Storable, SpansJudged, SpansSet}
 
--- ---- what the check's Passed says of the sizes
+-- ---- what the check's `Ok` says of the sizes
 
-module _ (b : List ℕ) (k : ℕ) (parts symbols : List ℕ) (r : Answer) (e : r ≡ verdict_answer (buffer_check b k parts symbols)) where
-  module _ (q : r ≡ Passed) where
+module _ (b : List ℕ) (k : ℕ) (parts symbols : List ℕ) (r : Result ⊤ Refusal) (e : r ≡ verdict_answer (buffer_check b k parts symbols)) where
+  module _ (u : ⊤) (q : r ≡ Ok u) where
     ok : buffer_check b k parts symbols ≡ passed
     ok = passes b k parts symbols r e q
 
@@ -48,72 +46,54 @@ module _ (b : List ℕ) (k : ℕ) (parts symbols : List ℕ) (r : Answer) (e : r
     -- ---- set_top_subtree_delimiter_kind
 
     module _ (d : ℕ) where
-      pub kind_two : (z : Answer) → 3 < d → z ≡ verdict_answer (refused 2 0) → KindSet b k parts symbols d z b
+      pub kind_two : (z : Result ⊤ Refusal) → 3 < d → z ≡ verdict_answer (refused 2 0) → KindSet b k parts symbols d z b
       kind_two z h p =
           let v = kind_high b k parts symbols d ok (lt-leb d 3 h) in
           record { answer = p ∙ ap verdict_answer (sym v); contents = sym (kind_refused b k parts symbols d 2 0 v) }
 
-      pub kind_done : (b' : List ℕ) → d ≤ 3 → b' ≡ new_kind b d → KindSet b k parts symbols d r b'
+      pub kind_done : (b' : List ℕ) → d ≤ 3 → b' ≡ new_kind b d → KindSet b k parts symbols d (Ok tt) b'
       kind_done b' h p =
           let v = kind_fits b k parts symbols d ok (le-leb d 3 h) in
-          record { answer = e ∙ ap verdict_answer (ok ∙ sym v); contents = p ∙ sym (kind_stored b k parts symbols d v) }
+          record { answer = sym q ∙ e ∙ ap verdict_answer (ok ∙ sym v); contents = p ∙ sym (kind_stored b k parts symbols d v) }
 
     -- ---- spans_verdict
 
-    module _ (o c : types.Span) (x : Bool) (f : x ≡ range_fits (words_of o)) where
-      two_at : (z : Answer) → (range_fits (words_of o) && range_fits (words_of c)) ≡ false → z ≡ verdict_answer (refused 2 0) → SpansJudged b k parts symbols o c z
-      two_at z h p = record { answer = p ∙ ap verdict_answer (sym (spans_high b k parts symbols (words_of o) (words_of c) ok h)) }
+    module _ (o c : types.Span) (x : Bool) (f : x ≡ (range_fits (words_of o) && range_fits (words_of c))) where
+      pub spans_two : (z : Result ⊤ Refusal) → x ≡ false → z ≡ verdict_answer (refused 2 0) → SpansJudged b k parts symbols o c z
+      spans_two z h p = record { answer = p ∙ ap verdict_answer (sym (spans_high b k parts symbols (words_of o) (words_of c) ok (sym f ∙ h))) }
 
-      pub open_two : (z : Answer) → not x ≡ true → z ≡ verdict_answer (refused 2 0) → SpansJudged b k parts symbols o c z
-      open_two z h p = let g : range_fits (words_of o) ≡ false = sym f ∙ not-true x h in two_at z (simp g) p
-
-      module _ (h : not x ≡ false) (y : Bool) (g : y ≡ range_fits (words_of c)) where
-        opens : range_fits (words_of o) ≡ true
-        opens = sym f ∙ not-false x h
-
-        pub close_two : (z : Answer) → not y ≡ true → z ≡ verdict_answer (refused 2 0) → SpansJudged b k parts symbols o c z
-        close_two z i p =
-            let j = opens in
-            let l : range_fits (words_of c) ≡ false = sym g ∙ not-true y i in
-            two_at z (simp (j, l)) p
-
-        pub spans_pass : not y ≡ false → SpansJudged b k parts symbols o c r
-        spans_pass i =
-            let j = opens in
-            let l : range_fits (words_of c) ≡ true = sym g ∙ not-false y i in
-            record { answer = e ∙ ap verdict_answer (ok ∙ sym (spans_fit b k parts symbols (words_of o) (words_of c) ok (simp (j, l)))) }
+      pub spans_pass : x ≡ true → SpansJudged b k parts symbols o c (Ok tt)
+      spans_pass h = record { answer = sym q ∙ e ∙ ap verdict_answer (ok ∙ sym (spans_fit b k parts symbols (words_of o) (words_of c) ok (sym f ∙ h))) }
 
   -- ---- what the check refuses
 
-  module _ (x : Refusal) (q : r ≡ Refused x) where
+  module _ (x : Refusal) (q : r ≡ Err x) where
     no : buffer_check b k parts symbols ≡ refused x.number x.tree
     no = answer_refused (buffer_check b k parts symbols) x (sym e ∙ q)
 
-    pub kind_unread : (d : ℕ) → KindSet b k parts symbols d r b
-    kind_unread d =
+    pub kind_unread : (d : ℕ) (z : Result ⊤ Refusal) → z ≡ Err x → KindSet b k parts symbols d z b
+    kind_unread d z f =
         let v = kind_unchecked b k parts symbols d x.number x.tree no in
-        record { answer = e ∙ ap verdict_answer (no ∙ sym v); contents = sym (kind_refused b k parts symbols d x.number x.tree v) }
+        record { answer = f ∙ sym q ∙ e ∙ ap verdict_answer (no ∙ sym v); contents = sym (kind_refused b k parts symbols d x.number x.tree v) }
 
-    pub spans_unread : (o c : types.Span) → SpansJudged b k parts symbols o c r
-    spans_unread o c = record { answer = e ∙ ap verdict_answer (no ∙ sym (spans_unchecked b k parts symbols (words_of o) (words_of c) x.number x.tree no)) }
+    pub spans_unread : (o c : types.Span) (z : Result ⊤ Refusal) → z ≡ Err x → SpansJudged b k parts symbols o c z
+    spans_unread o c z f = record { answer = f ∙ sym q ∙ e ∙ ap verdict_answer (no ∙ sym (spans_unchecked b k parts symbols (words_of o) (words_of c) x.number x.tree no)) }
 
-pub ruleset kind_cases = (passed_room, kind_two, kind_done, kind_unread)
-
-pub ruleset spans_cases = (open_two, close_two, spans_pass, spans_unread)
+pub ruleset kind_cases = (passed_room)
 
 -- ---- set_top_subtree_delimiter_span
 
-module _ (b : List ℕ) (k : ℕ) (parts symbols : List ℕ) (o c : types.Span) (r : Answer) (e : SpansJudged b k parts symbols o c r) where
+module _ (b : List ℕ) (k : ℕ) (parts symbols : List ℕ) (o c : types.Span) (r : Result ⊤ Refusal) (e : SpansJudged b k parts symbols o c r) where
   abbrev verdict : Verdict
   verdict = spans_verdict b k parts symbols (words_of o) (words_of c)
 
-  pub set_refused : (x : Refusal) → r ≡ Refused x → SpansSet b k parts symbols o c r b parts
-  set_refused x q =
+  pub set_refused : (x : Refusal) → r ≡ Err x → (z : Result ⊤ Refusal) → z ≡ Err x → SpansSet b k parts symbols o c z b parts
+  set_refused x q z f =
       let v = answer_refused verdict x (sym e.answer ∙ q) in
       let s = spans_refused b k parts symbols (words_of o) (words_of c) x.number x.tree v in
-      record { answer = e.answer; contents = sym s.0; table = sym s.1 }
+      record { answer = f ∙ sym q ∙ e.answer; contents = sym s.0; table = sym s.1 }
 
-  module _ (q : r ≡ Passed) where
+  module _ (u : ⊤) (q : r ≡ Ok u) where
     judged : verdict ≡ passed
     judged = answer_passed verdict (sym e.answer ∙ q)
 
@@ -154,10 +134,10 @@ module _ (b : List ℕ) (k : ℕ) (parts symbols : List ℕ) (o c : types.Span) 
 
     pub set_done : (b' parts' : List ℕ) → b' ≡ new_spans b (length parts / part_size - 2) (words_of o) (words_of c)
         → parts' ≡ put parts (length parts - 2 * part_size) (part_words (words_of o).part ++ part_words (words_of c).part)
-        → SpansSet b k parts symbols o c r b' parts'
+        → SpansSet b k parts symbols o c (Ok tt) b' parts'
     set_done b' parts' p q' =
         let s = spans_stored b k parts symbols (words_of o) (words_of c) judged in
-        record { answer = e.answer; contents = p ∙ sym s.0; table = q' ∙ sym s.1 }
+        record { answer = sym q ∙ e.answer; contents = p ∙ sym s.0; table = q' ∙ sym s.1 }
 
 pub ruleset set_cases = (set_refused, set_two, set_index, set_storable, set_least, set_pair, set_done)
 
@@ -166,7 +146,7 @@ pub ruleset set_cases = (set_refused, set_two, set_index, set_storable, set_leas
 pub kind_put : (b b' : List ℕ) (d x : ℕ) → x ≡ byte_at b 12 → b' ≡ put b 12 ((x % 8 + 8 * d) ∷ []) → b' ≡ new_kind b d
 kind_put b b' d x e p = p ∙ rw e
 
-pub span_put : (b : List ℕ) (at i : ℕ) (s : types.Span) (r : Packed) (b' : List ℕ) → s.start + s.len ≤ 4294967295 → i < 268435456 → at + 12 ≤ length b
+pub span_put : (b : List ℕ) (at i : ℕ) (s : types.Span) (r : Result ℕ ℕ) (b' : List ℕ) → s.start + s.len ≤ 4294967295 → i < 268435456 → at + 12 ≤ length b
     → SpanPacked b at true 0 (indexed i (words_of s)) r b' → b' ≡ put b at (heavy_bytes 0 (indexed i (words_of s)))
 span_put b at i s r b' h₁ h₂ h₃ p = heavy_contents b at 0 (indexed i (words_of s)) r b' (omega arith) h₁ h₂ p h₃
 

@@ -1,7 +1,7 @@
 // Root rewriting: the root's kind, or its two spans, in a buffer that passes the check; nothing else changes.
 #![tactic(auto)]
 
-ghost use Rattle.std.specs.Prelude.{◌≡◌, ◌+◌, ◌*◌, ◌≤◌, ◌<◌, ◌++◌, length};
+ghost use Rattle.std.specs.Prelude.{◌≡◌, ◌&&◌, ◌+◌, ◌*◌, ◌≤◌, ◌<◌, ◌++◌, length};
 ghost use Rattle.format.specs.Width.{part_size};
 ghost use Rattle.format.specs.Part.{part_words, indexed};
 ghost use Rattle.format.specs.Word.{put};
@@ -11,9 +11,10 @@ ghost use Rattle.tree.specs.Types.{words_of};
 ghost use Rattle.root.specs.Rewrite.{KindSet, Storable, SpansJudged, SpansSet};
 
 use checker::check::{check_buffer, refused};
+use pack::row;
 use pack::span::{PackedSpan, encode_span_no_map, range_fits};
 use pack::unchecked::{byte_at, put_byte};
-use tree::refusal::Verdict;
+use tree::refusal::Refusal;
 use tree::types::Span;
 use width::PART_WORDS;
 
@@ -42,21 +43,16 @@ pub fn set_top_subtree_delimiter_kind(
     parts: &[u32],
     symbols: &[u32],
     kind: u32,
-) -> Verdict
+) -> Result<(), Refusal>
     ensures { KindSet b.old trees parts.now symbols.now kind
         result b.new }
 {
-    let verdict = check_buffer(b, trees, parts, symbols);
-    match verdict {
-        Verdict::Refused(_) => verdict,
-        Verdict::Passed => {
-            if 3 < kind {
-                return refused(2, 0);
-            }
-            put_kind(b, kind);
-            verdict
-        }
+    check_buffer(b, trees, parts, symbols)?;
+    if 3 < kind {
+        return refused(row::FIELD, 0);
     }
+    put_kind(b, kind);
+    Ok(())
 }
 
 // ---- the spans
@@ -67,11 +63,11 @@ fn put_span(b: &mut [u8], at: usize, index: u32, span: Span)
     ensures { b.new ≡ put b.old at (heavy_bytes 0 (indexed index (words_of span))) }
 {
     let packed = PackedSpan {
-        index: index,
+        index,
         start: span.start,
         len: span.len,
     };
-    encode_span_no_map(b, at, packed, 0, true);
+    let _ = encode_span_no_map(b, at, packed, 0, true);
 }
 
 // The root's open part has this index, its close part the next.
@@ -102,6 +98,12 @@ fn put_pair(run: &mut [u32], at: usize, opening: Span, closing: Span)
     put_part(run, at + PART_WORDS, closing);
 }
 
+fn both_fit(opening: Span, closing: Span) -> bool
+    ensures { result ≡ (range_fits (words_of opening) && range_fits (words_of closing)) }
+{
+    range_fits(opening.start, opening.len) && range_fits(closing.start, closing.len)
+}
+
 // The check's refusal, or row 2 of the spans.
 fn spans_verdict(
     b: &[u8],
@@ -110,23 +112,15 @@ fn spans_verdict(
     symbols: &[u32],
     opening: Span,
     closing: Span,
-) -> Verdict
+) -> Result<(), Refusal>
     ensures { SpansJudged b.now trees parts.now symbols.now opening closing
         result }
 {
-    let verdict = check_buffer(b, trees, parts, symbols);
-    match verdict {
-        Verdict::Refused(_) => verdict,
-        Verdict::Passed => {
-            if !range_fits(opening.start, opening.len) {
-                return refused(2, 0);
-            }
-            if !range_fits(closing.start, closing.len) {
-                return refused(2, 0);
-            }
-            verdict
-        }
+    check_buffer(b, trees, parts, symbols)?;
+    if !both_fit(opening, closing) {
+        return refused(row::FIELD, 0);
     }
+    Ok(())
 }
 
 pub fn set_top_subtree_delimiter_span(
@@ -136,17 +130,12 @@ pub fn set_top_subtree_delimiter_span(
     symbols: &[u32],
     opening: Span,
     closing: Span,
-) -> Verdict
+) -> Result<(), Refusal>
     ensures { SpansSet b.old trees parts.old symbols.now opening closing
         result b.new parts.new }
 {
-    let verdict = spans_verdict(b, trees, parts, symbols, opening, closing);
-    match verdict {
-        Verdict::Refused(_) => verdict,
-        Verdict::Passed => {
-            put_spans(b, (parts.len() / PART_WORDS - 2) as u32, opening, closing);
-            put_pair(parts, parts.len() - ROOT_WORDS, opening, closing);
-            verdict
-        }
-    }
+    spans_verdict(b, trees, parts, symbols, opening, closing)?;
+    put_spans(b, (parts.len() / PART_WORDS - 2) as u32, opening, closing);
+    put_pair(parts, parts.len() - ROOT_WORDS, opening, closing);
+    Ok(())
 }

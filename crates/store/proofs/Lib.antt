@@ -1,3 +1,1 @@
-pub mod SetReturns
-pub mod PreviewReturns
-pub mod TidyReturns
+pub mod Mapped

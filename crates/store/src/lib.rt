@@ -3,4 +3,5 @@
 
 pub mod preview_token;
 pub mod set_token;
+mod tell;
 pub mod tidy_buffer;

@@ -1,7 +1,7 @@
 // The preview of `set_token` for hosts.
 ghost use Rattle.store.specs.Preview.{PreviewTold};
 
-use crate::set_token::tell;
+use crate::set_token::sizes_told;
 use replace::preview::preview_words;
 use width::TREE_WORDS;
 
@@ -25,5 +25,5 @@ pub extern "C" fn tt_preview(
         list.new tables.new counts.new }
 {
     let report = preview_words(b, trees, parts, symbols, number, leaf, list, tables, counts);
-    tell(report, told)
+    sizes_told(report, told)
 }

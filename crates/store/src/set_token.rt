@@ -1,33 +1,25 @@
 // `set_token` for hosts.
 ghost use Rattle.std.specs.Prelude.{◌≡◌};
-ghost use Rattle.store.specs.Told.{Told, SetTold};
+ghost use Rattle.store.specs.Told.{Told, sizes_list, SetTold};
 
-use replace::report::ReplaceReport;
+use crate::tell::tell;
+use replace::report::Sizes;
 use replace::set_token::set_token_words;
-use tree::raw::place;
+use tree::refusal::Refusal;
 use width::TREE_WORDS;
 
-// 0 and the three sizes, or a refusal's number and its tree.
-pub(crate) fn tell(report: ReplaceReport, told: &mut [usize; 3]) -> u32
-    ensures { Told report result told.new }
+fn numbers(sizes: Sizes) -> [usize; 3]
+    ensures { result ≡ sizes_list sizes }
 {
-    match report {
-        ReplaceReport::Replaced {
-            bytes,
-            parts,
-            symbols,
-        } => {
-            let sizes = [bytes, parts, symbols];
-            *told = sizes;
-            0
-        }
-        ReplaceReport::Refused(refusal) => {
-            let at = place(refusal.tree);
-            let tree = [at, 0, 0];
-            *told = tree;
-            refusal.number
-        }
-    }
+    [sizes.bytes, sizes.parts, sizes.symbols]
+}
+
+// Bytes, parts and symbols.
+pub(crate) fn sizes_told(report: Result<Sizes, Refusal>, told: &mut [usize; 3]) -> u32
+    ensures { Told sizes_list 2 report result told.new }
+{
+    let sizes = report.map(numbers);
+    tell(sizes, told)
 }
 
 // The new leaf by its list words.
@@ -68,5 +60,5 @@ pub extern "C" fn tt_set_token(
         out_parts,
         out_symbols,
     );
-    tell(report, told)
+    sizes_told(report, told)
 }

@@ -1,26 +1,14 @@
 // `tidy` for hosts.
-ghost use Rattle.store.specs.Tidy.{Told, TidyTold};
+ghost use Rattle.std.specs.Prelude.{◌≡◌};
+ghost use Rattle.store.specs.Tidy.{size_list, TidyTold};
 
+use crate::tell::tell;
 use tidy::tidy::tidy;
-use tree::raw::place;
-use tree::refusal::Report;
 
-// 0 and the byte length, or a refusal's number and its tree.
-fn tell(report: Report, told: &mut [usize; 1]) -> u32
-    ensures { Told report result told.new }
+fn number(bytes: usize) -> [usize; 1]
+    ensures { result ≡ size_list bytes }
 {
-    match report {
-        Report::Wrote(bytes) => {
-            let size = [bytes];
-            *told = size;
-            0
-        }
-        Report::Refused(refusal) => {
-            let tree = [place(refusal.tree)];
-            *told = tree;
-            refusal.number
-        }
-    }
+    [bytes]
 }
 
 #[unsafe(no_mangle)]
@@ -40,5 +28,6 @@ pub extern "C" fn tt_tidy(
         list.new counts.new out.new }
 {
     let report = tidy(b, trees, parts, symbols, list, tables, counts, out);
-    tell(report, told)
+    let size = report.map(number);
+    tell(size, told)
 }

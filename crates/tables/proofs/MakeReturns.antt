@@ -8,6 +8,7 @@ use lib.ListN.{length}
 use lib.Seq.{sets, sets-eq}
 use lib.Dec.{leb, eqb}
 use borrow.Author.Tests.{leb-true, le-leb}
+use Rattle.std.specs.Prelude.{Result, Ok, Err, ⊤}
 use Rattle.format.specs.Verdict as format
 use Rattle.format.specs.Verdict.{passed, refused, rule}
 use Rattle.format.specs.Word.{put}
@@ -24,15 +25,12 @@ use Rattle.format.proofs.TableRuns.{made_complete, made_refused, made_short}
 use Rattle.pack.proofs.Store.{put_put}
 use Rattle.tree.specs.Refusal.{verdict_answer}
 use Rattle.tree.specs.declared.refusal.Refusal.{Refusal}
-use Rattle.tree.specs.declared.refusal.Verdict.{Verdict}
-use Rattle.tree.specs.declared.refusal.Verdict.TheVariants as verdicts
 use Rattle.keys.specs.Keys.{part_in, place_in}
 use Rattle.keys.specs.Runs.{Room}
 use Rattle.entries.specs.Runs.{Made}
 use Rattle.distinct.specs.Count.{ample}
-use Rattle.tables.specs.Made.{tables_answer, PartsMade, TablesDone}
-use Rattle.tables.specs.declared.make.TablesReport.{TablesReport}
-use Rattle.tables.specs.declared.make.TablesReport.TheVariants as answers
+use Rattle.tables.specs.Made.{tables_answer, made_of, PartsMade, TablesDone}
+use Rattle.tables.specs.declared.make.Made.{Made as Sizes}
 use Rattle.keys.proofs.Lists.{sets_append}
 use Rattle.entries.proofs.TableLaw.{words_length}
 
@@ -132,13 +130,13 @@ module _ (l a b c d : List ℕ) (e : list_rows l ≡ passed) where
         (record { parts = omega (arith, s.0, f.0); part_tallies = omega (arith, s.1, f.1); symbols = omega (arith, s.2, g.0); symbol_tallies = omega (arith, s.3, g.1) })
 
     pub both_made : (p s x y : ℕ) (a' b' c' d' : List ℕ) → PartsMade l p a a' b b' → Made l true s c c' d d' → x ≡ p → y ≡ s
-        → TablesDone l a b c d (answers.Made x y) a' b' c' d'
+        → TablesDone l a b c d (made_of x y) a' b' c' d'
     unfolding tables_answer symbol_table symbol_counts
     both_made p s x y a' b' c' d' P S i j =
         let v = passes in
         let n : s ≡ length (symbol_table l) = S.number ∙ sym sizes.2 in
         record {
-          answer = rw v (ap₂ answers.Made (i ∙ P.number) (j ∙ n));
+          answer = rw v (ap₂ made_of (i ∙ P.number) (j ∙ n));
           runs = record {
             verdict = refl;
             parts = P.words ∙ rw v;
@@ -151,7 +149,7 @@ module _ (l a b c d : List ℕ) (e : list_rows l ≡ passed) where
 -- ---- refusals
 
 module _ (l a b c d : List ℕ) (r n : ℕ) (v : tables_verdict l (length a) (length b) (length c) (length d) ≡ refused r n) where
-  refused_done : TablesDone l a b c d (answers.Refused (record { number = r; tree = n })) a b c d
+  refused_done : TablesDone l a b c d (Err (record { number = r; tree = n })) a b c d
   unfolding tables_answer
   refused_done = record {
     answer = rw v;
@@ -177,11 +175,11 @@ module _ (l a b c d : List ℕ) (e : list_rows l ≡ passed) where
 
   module _ (q : Bool) where
     pub parts_6 : q ≡ ample false (length (keys_of l false)) (2 * part_size) (length a) (length b) → q ≡ false
-        → TablesDone l a b c d (answers.Refused (record { number = 6; tree = 0 })) a b c d
+        → TablesDone l a b c d (Err (record { number = 6; tree = 0 })) a b c d
     parts_6 f h = refused_done l a b c d 6 0 (made_short l (length a) (length b) (length c) (length d) e (short_parts (sym f ∙ h)))
 
     pub symbols_6 : q ≡ ample true (length (keys_of l true)) 0 (length c) (length d) → q ≡ false
-        → TablesDone l a b c d (answers.Refused (record { number = 6; tree = 0 })) a b c d
+        → TablesDone l a b c d (Err (record { number = 6; tree = 0 })) a b c d
     symbols_6 f h = refused_done l a b c d 6 0 (made_short l (length a) (length b) (length c) (length d) e (short_symbols (sym f ∙ h)))
 
 pub told : (x b : Bool) → b ≡ x → b ≡ true → x ≡ true
@@ -191,36 +189,35 @@ pub ruleset make_cases = (told, rows_some, rows_fit, parts_6, symbols_6)
 
 -- ---- rows 1 to 4
 
-pub rows_passed : (l : List ℕ) (r : Verdict) → r ≡ verdict_answer (list_rows l) → r ≡ verdicts.Passed → list_rows l ≡ passed
+pub rows_passed : (l : List ℕ) (r : Result ⊤ Refusal) → r ≡ verdict_answer (list_rows l) → r ≡ Ok tt → list_rows l ≡ passed
 unfolding verdict_answer
 rows_passed l r e h = go (list_rows l) (sym e ∙ h)
   where
-    number : Verdict → ℕ
-    number verdicts.Passed = 0
-    number (verdicts.Refused z) = 1
+    number : Result ⊤ Refusal → ℕ
+    number (Ok _) = 0
+    number (Err z) = 1
 
-    go : (v : format.Verdict) → verdict_answer v ≡ verdicts.Passed → v ≡ passed
+    go : (v : format.Verdict) → verdict_answer v ≡ Ok tt → v ≡ passed
     go passed q = refl
     go (refused x y) q = let z : ◌≡◌ {A = ℕ} 1 0 = ap number q in absurd (omega arith)
 
-pub rows_refused : (l a b c d : List ℕ) (r : Verdict) (why : Refusal) → r ≡ verdict_answer (list_rows l) → r ≡ verdicts.Refused why
-    → TablesDone l a b c d (answers.Refused why) a b c d
+pub rows_refused : (l a b c d : List ℕ) (r : Result ⊤ Refusal) (why : Refusal) → r ≡ verdict_answer (list_rows l) → r ≡ Err why
+    → TablesDone l a b c d (Err why) a b c d
 unfolding verdict_answer
 rows_refused l a b c d r why e h = go (list_rows l) refl (sym e ∙ h)
   where
-    number : Verdict → ℕ
-    number verdicts.Passed = 0
-    number (verdicts.Refused z) = 1
+    number : Result ⊤ Refusal → ℕ
+    number (Ok _) = 0
+    number (Err z) = 1
 
-    answer : Verdict → TablesReport
-    answer verdicts.Passed = answers.Refused why
-    answer (verdicts.Refused z) = answers.Refused z
+    answer : Result ⊤ Refusal → Result Sizes Refusal
+    answer (Ok _) = Err why
+    answer (Err z) = Err z
 
-    go : (v : format.Verdict) → list_rows l ≡ v → verdict_answer v ≡ verdicts.Refused why → TablesDone l a b c d (answers.Refused why) a b c d
+    go : (v : format.Verdict) → list_rows l ≡ v → verdict_answer v ≡ Err why → TablesDone l a b c d (Err why) a b c d
     go passed q k = let z : ◌≡◌ {A = ℕ} 0 1 = ap number k in absurd (omega arith)
     go (refused x y) q k =
-        let z : answers.Refused (record { number = x; tree = y }) ≡ answers.Refused why = ap answer k in
-        subst (λ (u : TablesReport). TablesDone l a b c d u a b c d) z
+        subst (λ (u : Result Sizes Refusal). TablesDone l a b c d u a b c d) (ap answer k)
         (refused_done l a b c d x y (made_refused l (length a) (length b) (length c) (length d) x y q))
 
 pub ruleset report_cases = (rows_passed, rows_refused)

@@ -18,29 +18,37 @@ use Rattle.format.proofs.TableLaw.{part_words_lem, parts_most, part_counts_many,
 use Rattle.format.proofs.TableRuns as runs
 use Rattle.format.proofs.TableRuns.{Room, made_sound, made_complete, made_short, made_for_writer, run_take, run_drop}
 use Rattle.tree.specs.declared.refusal.Refusal.{Refusal}
-use Rattle.tables.specs.Made.{tables_answer, TablesDone}
+use Rattle.tables.specs.Made.{tables_answer, made_of, TablesDone}
 use Rattle.tables.specs.Tabled.{Tabled}
-use Rattle.tables.specs.declared.make.TablesReport.{TablesReport}
-use Rattle.tables.specs.declared.make.TablesReport.TheVariants.{Made, Refused}
+use Rattle.tables.specs.declared.make.Made.{Made}
+use Rattle.std.specs.Prelude.{Result, Ok, Err}
 
 -- ---- an answer tells its verdict
 
-made_refused : {A : Type 0} (p s : ℕ) (x : Refusal) → Made p s ≡ Refused x → A
+made_refused : {A : Type 0} (p s : ℕ) (x : Refusal) → made_of p s ≡ Err x → A
 made_refused p s x e = let z : ◌≡◌ {A = ℕ} 0 1 = cc in absurd (omega arith)
 
-same_made : (p s q t : ℕ) → Made p s ≡ Made q t → (p ≡ q) × (s ≡ t)
-same_made p s q t e = (cc, cc)
+same_made : (p s q t : ℕ) → made_of p s ≡ made_of q t → (p ≡ q) × (s ≡ t)
+same_made p s q t e = (ap parts e, ap symbols e)
+  where
+    parts : Result Made Refusal → ℕ
+    parts (Ok m) = m.parts
+    parts (Err _) = 0
 
-same_refusal : (x y : Refusal) → Refused x ≡ Refused y → x ≡ y
+    symbols : Result Made Refusal → ℕ
+    symbols (Ok m) = m.symbols
+    symbols (Err _) = 0
+
+same_refusal : (x y : Refusal) → ◌≡◌ {A = Result Made Refusal} (Err x) (Err y) → x ≡ y
 same_refusal x y e = cc
 
-answer_made : (l : List ℕ) (v : Verdict) (p s : ℕ) → tables_answer (tables_report l v) ≡ Made p s
+answer_made : (l : List ℕ) (v : Verdict) (p s : ℕ) → tables_answer (tables_report l v) ≡ made_of p s
     → (v ≡ passed) × (part_total l ≡ p) × (length (symbol_table l) ≡ s)
 unfolding tables_answer
 answer_made l passed p s e = let z = same_made (part_total l) (length (symbol_table l)) p s e in (refl, z.0, z.1)
 answer_made l (refused r n) p s e = made_refused p s _ (sym e)
 
-answer_refused : (l : List ℕ) (v : Verdict) (x : Refusal) → tables_answer (tables_report l v) ≡ Refused x → v ≡ refused x.number x.tree
+answer_refused : (l : List ℕ) (v : Verdict) (x : Refusal) → tables_answer (tables_report l v) ≡ Err x → v ≡ refused x.number x.tree
 unfolding tables_answer
 answer_refused l passed x e = made_refused _ _ x e
 answer_refused l (refused r n) x e = ap (λ (y : Refusal). refused y.number y.tree) (same_refusal _ x e)
@@ -52,11 +60,11 @@ begins b b' vs n e q = (rw (e, q) (run_take b vs), rw (e, q) (run_drop b vs))
 
 -- ---- its answer r, and what the lent runs hold then
 
-module _ (l a b c d : List ℕ) (r : TablesReport) (a' b' c' d' : List ℕ) (done : TablesDone l a b c d r a' b' c' d') where
+module _ (l a b c d : List ℕ) (r : Result Made Refusal) (a' b' c' d' : List ℕ) (done : TablesDone l a b c d r a' b' c' d') where
   abbrev verdict : Verdict
   verdict = tables_verdict l (length a) (length b) (length c) (length d)
 
-  pub tabled : (p s : ℕ) → r ≡ Made p s → Tabled l a b c d p s a' b' c' d'
+  pub tabled : (p s : ℕ) → r ≡ made_of p s → Tabled l a b c d p s a' b' c' d'
   tabled p s e =
       let z = answer_made l verdict p s (sym done.answer ∙ e) in
       let v = z.0 in
@@ -83,21 +91,21 @@ module _ (l a b c d : List ℕ) (r : TablesReport) (a' b' c' d' : List ℕ) (don
       }
 
   -- it is not refused without a cause: the list has passed rows 1 to 4, and the four runs have room
-  pub made_given : list_rows l ≡ passed → Room l (length a) (length b) (length c) (length d) → r ≡ Made (part_total l) (length (symbol_table l))
+  pub made_given : list_rows l ≡ passed → Room l (length a) (length b) (length c) (length d) → r ≡ made_of (part_total l) (length (symbol_table l))
   unfolding tables_answer
   made_given e h = done.answer ∙ rw (made_complete l (length a) (length b) (length c) (length d) e h)
 
   -- "Tables: as the writer, without 5."
-  pub row_refused : (n t : ℕ) → list_rows l ≡ refused n t → r ≡ Refused (record { number = n; tree = t })
+  pub row_refused : (n t : ℕ) → list_rows l ≡ refused n t → r ≡ Err (record { number = n; tree = t })
   unfolding tables_answer
   row_refused n t e = done.answer ∙ rw (runs.made_refused l (length a) (length b) (length c) (length d) n t e)
 
-  pub short_refused : list_rows l ≡ passed → (Room l (length a) (length b) (length c) (length d) → ⊥) → r ≡ Refused (record { number = 6; tree = 0 })
+  pub short_refused : list_rows l ≡ passed → (Room l (length a) (length b) (length c) (length d) → ⊥) → r ≡ Err (record { number = 6; tree = 0 })
   unfolding tables_answer
   short_refused e h = done.answer ∙ rw (made_short l (length a) (length b) (length c) (length d) e h)
 
   -- a refusal changes nothing
-  pub refused_kept : (x : Refusal) → r ≡ Refused x → (a' ≡ a) × (b' ≡ b) × (c' ≡ c) × (d' ≡ d)
+  pub refused_kept : (x : Refusal) → r ≡ Err x → (a' ≡ a) × (b' ≡ b) × (c' ≡ c) × (d' ≡ d)
   refused_kept x e =
       let v = answer_refused l verdict x (sym done.answer ∙ e) in
       (done.runs.parts ∙ rw v, done.runs.part_tallies ∙ rw v, done.runs.symbols ∙ rw v, done.runs.symbol_tallies ∙ rw v)

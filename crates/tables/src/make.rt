@@ -10,16 +10,17 @@ ghost use Rattle.tables.specs.Made.{PartsMade, TablesDone};
 
 use distinct::count::has_room;
 use entries::table::make_table;
-use keys::key::put_part;
+use keys::key::{Keys, put_part};
 use list::rows::list_rows;
-use tree::refusal::{Refusal, Verdict};
+use pack::row;
+use tree::refusal::Refusal;
 use width::{CLOSE_AT, OPEN_AT, PART_WORDS};
 
-#[derive(Clone, Copy)]
-pub enum TablesReport {
-    // How many parts there are, the root's two among them, and how many symbols.
-    Made { parts: usize, symbols: usize },
-    Refused(Refusal),
+// How many parts there are, the root's two among them, and how many symbols.
+#[derive(Clone, Copy, PartialEq, Eq, Debug)]
+pub struct Made {
+    pub parts: usize,
+    pub symbols: usize,
 }
 
 // The root's open and close part.
@@ -39,7 +40,11 @@ pub fn make_parts(l: &[u32], parts: &mut [u32], tallies: &mut [u32]) -> usize
     ensures { PartsMade l.now result
         parts.old parts.new tallies.old tallies.new }
 {
-    let p = make_table(l, false, parts, tallies);
+    let keys = Keys {
+        list: l,
+        symbols: false,
+    };
+    let p = make_table(&keys, parts, tallies);
     put_root(l, parts, PART_WORDS * p);
     p + 2
 }
@@ -51,7 +56,7 @@ fn make_both(
     part_counts: &mut [u32],
     symbols: &mut [u32],
     symbol_counts: &mut [u32],
-) -> TablesReport
+) -> Made
     requires l_value { list_rows l.now ≡ passed }
     requires part_counts_value { ample false (length (keys_of l.now false)) (2 * part_size)
         (length parts.old) (length part_counts.old) ≡ true }
@@ -59,11 +64,15 @@ fn make_both(
         (length symbols.old) (length symbol_counts.old) ≡ true }
     ensures { TablesDone l.now parts.old
         part_counts.old symbols.old symbol_counts.old
-        result parts.new part_counts.new symbols.new symbol_counts.new }
+        (Ok result) parts.new part_counts.new symbols.new symbol_counts.new }
 {
-    let s = make_table(l, true, symbols, symbol_counts);
+    let keys = Keys {
+        list: l,
+        symbols: true,
+    };
+    let s = make_table(&keys, symbols, symbol_counts);
     let p = make_parts(l, parts, part_counts);
-    TablesReport::Made {
+    Made {
         parts: p,
         symbols: s,
     }
@@ -76,19 +85,29 @@ fn make_if_room(
     part_counts: &mut [u32],
     symbols: &mut [u32],
     symbol_counts: &mut [u32],
-) -> TablesReport
+) -> Result<Made, Refusal>
     requires { list_rows l.now ≡ passed }
     ensures { TablesDone l.now parts.old
         part_counts.old symbols.old symbol_counts.old
         result parts.new part_counts.new symbols.new symbol_counts.new }
 {
-    if has_room(l, false, 2 * PART_WORDS, parts.len(), part_counts.len()) {
-        if has_room(l, true, 0, symbols.len(), symbol_counts.len()) {
-            return make_both(l, parts, part_counts, symbols, symbol_counts);
-        }
-        return TablesReport::Refused(Refusal { number: 6, tree: 0 });
+    let part_keys = Keys {
+        list: l,
+        symbols: false,
+    };
+    let symbol_keys = Keys {
+        list: l,
+        symbols: true,
+    };
+    if has_room(&part_keys, 2 * PART_WORDS, parts.len(), part_counts.len())
+        && has_room(&symbol_keys, 0, symbols.len(), symbol_counts.len())
+    {
+        return Ok(make_both(l, parts, part_counts, symbols, symbol_counts));
     }
-    TablesReport::Refused(Refusal { number: 6, tree: 0 })
+    Err(Refusal {
+        number: row::ROOM,
+        tree: 0,
+    })
 }
 
 pub fn compute_span_frequencies_and_symbols(
@@ -97,13 +116,11 @@ pub fn compute_span_frequencies_and_symbols(
     part_counts: &mut [u32],
     symbols: &mut [u32],
     symbol_counts: &mut [u32],
-) -> TablesReport
+) -> Result<Made, Refusal>
     ensures { TablesDone l.now parts.old
         part_counts.old symbols.old symbol_counts.old
         result parts.new part_counts.new symbols.new symbol_counts.new }
 {
-    match list_rows(l) {
-        Verdict::Passed => make_if_room(l, parts, part_counts, symbols, symbol_counts),
-        Verdict::Refused(why) => TablesReport::Refused(why),
-    }
+    list_rows(l)?;
+    make_if_room(l, parts, part_counts, symbols, symbol_counts)
 }

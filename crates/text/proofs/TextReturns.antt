@@ -8,7 +8,7 @@ use lib.ListN.{length, set, take, get_or}
 use lib.Seq.{set_out, take-suc, take_all}
 use Rattle.format.specs.Lister.{decimal}
 use Rattle.text.specs.Typed.{Typed}
-use Rattle.text.proofs.Typed.{kept, typed_then, typed_as}
+use Rattle.text.proofs.Typed.{typed_then, typed_as}
 use Rattle.text.proofs.Decimal.{decimal_one, decimal_more}
 
 -- ---- put_char
@@ -34,10 +34,7 @@ module _ (b b₁ s : List ℕ) (at r i : ℕ) (t : Typed b at (take i s) r b₁)
   pub text_all : length s ≤ i → Typed b at s r b₁
   text_all h = typed_as b b₁ at r _ _ (take_all i s h) t
 
-  pub text_kept : length b₁ ≡ length b
-  text_kept = kept b b₁ at r (take i s) t
-
-pub ruleset text_cases = (text_none, text_more, text_all, text_kept)
+pub ruleset text_cases = (text_none, text_more, text_all)
 
 -- ---- put_decimal
 

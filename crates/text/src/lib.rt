@@ -1,20 +1,11 @@
 // Text put into a lent run of bytes, one piece behind the other. What the run has no room for is left out.
 #![tactic(auto)]
 
-ghost use Rattle.std.specs.Prelude.{◌≡◌, [], ◌∷◌, ◌+◌, ◌<◌, min};
+ghost use Rattle.std.specs.Prelude.{◌≡◌, [], ◌∷◌, ◌+◌, ◌<◌};
 ghost use Rattle.format.specs.Lister.{decimal};
 ghost use Rattle.text.specs.Typed.{Typed};
 
-// A place, or the end of a run of so many bytes if it is past that.
-fn within(at: usize, len: usize) -> usize
-    ensures { result ≡ min at len }
-{
-    if len < at {
-        return len;
-    }
-    at
-}
-
+#[tactic(auto, using(crate::proofs::TextReturns::char_cases))]
 pub fn put_char(out: &mut [u8], at: usize, x: u8) -> usize
     ensures { Typed out.old at (x ∷ []) result out.new }
 {
@@ -25,14 +16,13 @@ pub fn put_char(out: &mut [u8], at: usize, x: u8) -> usize
     at + 1
 }
 
+#[tactic(auto, using(crate::proofs::TextReturns::text_cases))]
 pub fn put_text(out: &mut [u8], at: usize, text: &[u8]) -> usize
     ensures { Typed out.old at text.now result out.new }
 {
-    let mut i: usize = 0;
-    let mut next = within(at, out.len());
-    while i < text.len() {
-        next = put_char(out, next, text[i]);
-        i = i + 1;
+    let mut next = at.min(out.len());
+    for byte in text {
+        next = put_char(out, next, *byte);
     }
     next
 }
@@ -41,7 +31,7 @@ fn digit(d: usize) -> u8
     requires { d < 10 }
     ensures { result ≡ 48 + d }
 {
-    48 + d as u8
+    b'0' + d as u8
 }
 
 // A number in decimal: the digits before the last, then the last.

@@ -6,7 +6,8 @@ use mathlib.Core.List.{List}
 use native.Mathlib.Omega.{arith}
 use borrow.Author.Tests.{le-leb, not-true, not-false}
 use lib.ListN.{length, take, drop}
-use Rattle.format.specs.Verdict.{passed, refused, refusal}
+use Rattle.std.specs.Prelude.{Result, Ok, Err, ⊤}
+use Rattle.format.specs.Verdict.{passed, refused}
 use Rattle.format.specs.Word.{put}
 use Rattle.format.specs.Width.{tree_size}
 use Rattle.format.specs.Buffer.{buffer_check}
@@ -25,20 +26,10 @@ use Rattle.format.proofs.Holding.{lawful_holding}
 use Rattle.format.proofs.ListOf.{list_length, list_count_lem, admitted_lawful}
 use Rattle.tree.specs.Refusal.{verdict_answer, report_answer}
 use Rattle.tree.specs.declared.refusal.Refusal.{Refusal}
-use Rattle.tree.specs.declared.refusal.Report.{Report}
-use Rattle.tree.specs.declared.refusal.Report.TheVariants as reports
-use Rattle.tree.specs.declared.refusal.Verdict.{Verdict as Answer}
-use Rattle.tree.specs.declared.refusal.Verdict.TheVariants.{Passed, Refused}
 use Rattle.tree.proofs.Answers.{answer_passed, answer_refused}
 use Rattle.writer.specs.Written.{Written}
 use Rattle.unpack.proofs.WorkReturns.{work_ample}
 use Rattle.tidy.specs.Tidied.{WrittenAgain, Tidied}
-
-pub short_is : reports.Refused (record { number = 6; tree = 0 }) ≡ report_answer (refusal 6 0)
-unfolding report_answer
-short_is = refl
-
-pub ruleset short_cases = short_is
 
 -- ---- the list in work words, and its bytes
 
@@ -77,7 +68,7 @@ module _ (b : List ℕ) (k : ℕ) (parts symbols : List ℕ) (ok : buffer_check 
         let m = list_length b k parts symbols ok in
         ap (drop (list_work k)) e ∙ put_behind a 0 old (omega arith) (list_work k) (omega arith)
 
-    module _ (d x : List ℕ) (f : count_work k ≤ length d) (r : Report) (d' x' : List ℕ) where
+    module _ (d x : List ℕ) (f : count_work k ≤ length d) (r : Result ℕ Refusal) (d' x' : List ℕ) where
       works : work_verdict parts symbols old d x ≡ passed
       works =
           let n = list_count_lem b k parts symbols ok in
@@ -102,17 +93,17 @@ pub ruleset again_cases = (list_room, list_inside, list_sized_lem, list_ruled, l
 
 -- ---- refusals before anything is written
 
-pub check_passed : (b : List ℕ) (k : ℕ) (parts symbols : List ℕ) (v : Answer) → v ≡ verdict_answer (buffer_check b k parts symbols) → v ≡ Passed → buffer_check b k parts symbols ≡ passed
+pub check_passed : (b : List ℕ) (k : ℕ) (parts symbols : List ℕ) (v : Result ⊤ Refusal) → v ≡ verdict_answer (buffer_check b k parts symbols) → v ≡ Ok tt → buffer_check b k parts symbols ≡ passed
 check_passed b k parts symbols v e q = answer_passed (buffer_check b k parts symbols) (sym e ∙ q)
 
 pub work_room : (k a c d : ℕ) (u : Bool) → u ≡ work_fits k a c d → not u ≡ false → (list_work k ≤ a) × (count_work k ≤ d)
 work_room k a c d u g f = let m = work_ample k a c d u g f in (m.0, m.2)
 
 module _ (b : List ℕ) (k : ℕ) (parts symbols a c d x : List ℕ) where
-  abbrev Rest : Report → Type 0
+  abbrev Rest : Result ℕ Refusal → Type 0
   Rest r = Tidied b k parts symbols a c d x r a d x
 
-  none_changed : (r m : ℕ) → tidy_work b k parts symbols (length a) (length c) (length d) ≡ refused r m → Rest (reports.Refused (record { number = r; tree = m }))
+  none_changed : (r m : ℕ) → tidy_work b k parts symbols (length a) (length c) (length d) ≡ refused r m → Rest (Err (record { number = r; tree = m }))
   unfolding tidy_verdict report_answer
   none_changed r m e =
       record {
@@ -124,20 +115,20 @@ module _ (b : List ℕ) (k : ℕ) (parts symbols a c d x : List ℕ) where
         };
       }
 
-  module _ (v : Answer) (e : v ≡ verdict_answer (buffer_check b k parts symbols)) where
-    pub check_refused : (why : Refusal) → v ≡ Refused why → Rest (reports.Refused why)
+  module _ (v : Result ⊤ Refusal) (e : v ≡ verdict_answer (buffer_check b k parts symbols)) where
+    pub check_refused : (why : Refusal) → v ≡ Err why → Rest (Err why)
     unfolding tidy_work
     check_refused why q =
         let f = answer_refused (buffer_check b k parts symbols) why (sym e ∙ q) in
         none_changed why.number why.tree (rw f)
 
-    module _ (q : v ≡ Passed) (u : Bool) (g : u ≡ work_fits k (length a) (length c) (length d)) where
-      pub work_short : not u ≡ true → (r : Report) → r ≡ report_answer (refusal 6 0) → Rest r
-      unfolding tidy_work report_answer
-      work_short f r i =
+    module _ (q : v ≡ Ok tt) (u : Bool) (g : u ≡ work_fits k (length a) (length c) (length d)) where
+      pub work_short : not u ≡ true → Rest (Err (record { number = 6; tree = 0 }))
+      unfolding tidy_work
+      work_short f =
           let o = check_passed b k parts symbols v e q in
           let j : work_fits k (length a) (length c) (length d) ≡ false = sym g ∙ not-true u f in
-          subst Rest (sym i) (none_changed 6 0 (simp (o, j)))
+          none_changed 6 0 (simp (o, j))
 
       module _ (f : not u ≡ false) where
         fits : tidy_work b k parts symbols (length a) (length c) (length d) ≡ passed
@@ -147,7 +138,7 @@ module _ (b : List ℕ) (k : ℕ) (parts symbols a c d x : List ℕ) where
             let j : work_fits k (length a) (length c) (length d) ≡ true = sym g ∙ not-false u f in
             simp (o, j)
 
-        pub written_again : (r : Report) (a' d' x' : List ℕ) → WrittenAgain b k parts symbols a d x r a' d' x' → Tidied b k parts symbols a c d x r a' d' x'
+        pub written_again : (r : Result ℕ Refusal) (a' d' x' : List ℕ) → WrittenAgain b k parts symbols a d x r a' d' x' → Tidied b k parts symbols a c d x r a' d' x'
         unfolding tidy_verdict
         written_again r a' d' x' R =
             let w = fits in

@@ -1,25 +1,18 @@
 // `tidy`: a buffer with its tables in, the writer's buffer of the same list over the same tables out.
 ghost use Rattle.std.specs.Prelude.{◌≡◌, ◌≤◌, length};
-ghost use Rattle.format.specs.Verdict.{passed, refusal};
+ghost use Rattle.format.specs.Verdict.{passed};
 ghost use Rattle.format.specs.Buffer.{buffer_check};
 ghost use Rattle.format.specs.Unpack.{list_work, count_work};
-ghost use Rattle.tree.specs.Refusal.{report_answer};
 ghost use Rattle.tidy.specs.Tidied.{WrittenAgain, Tidied};
 
 use checker::check::check_buffer;
+use pack::row;
 use tree::raw::place;
-use tree::refusal::{Refusal, Report, Verdict};
+use tree::refusal::Refusal;
 use unpack::list::unpack;
 use unpack::work::work_fits;
 use width::TREE_WORDS;
 use writer::write::write_own;
-
-// A lent run is too short.
-fn short() -> Report
-    ensures { result ≡ report_answer (refusal 6 0) }
-{
-    Report::Refused(Refusal { number: 6, tree: 0 })
-}
 
 // Behind all refusals but that of a short output: no row of 1 to 5 is left, so rows 1 to 4 are not asked again.
 fn write_again(
@@ -30,9 +23,9 @@ fn write_again(
     list: &mut [u32],
     counts: &mut [u32],
     out: &mut [u8],
-) -> Report
-    requires symbols_value { buffer_check b.now trees parts.now symbols.now ≡ passed }
-    requires trees_in_bounds { (list_work trees ≤ length list.old) × (count_work trees ≤ length counts.old) }
+) -> Result<usize, Refusal>
+    requires passes { buffer_check b.now trees parts.now symbols.now ≡ passed }
+    requires room { (list_work trees ≤ length list.old) × (count_work trees ≤ length counts.old) }
     ensures { WrittenAgain b.now trees parts.now symbols.now
         list.old counts.old out.old result
         list.new counts.new out.new }
@@ -52,18 +45,17 @@ pub fn tidy(
     tables: &[u32],
     counts: &mut [u32],
     out: &mut [u8],
-) -> Report
+) -> Result<usize, Refusal>
     ensures { Tidied b.now trees parts.now symbols.now
         list.old tables.now counts.old out.old result
         list.new counts.new out.new }
 {
-    match check_buffer(b, trees, parts, symbols) {
-        Verdict::Refused(why) => Report::Refused(why),
-        Verdict::Passed => {
-            if !work_fits(trees, list.len(), tables.len(), counts.len()) {
-                return short();
-            }
-            write_again(b, trees, parts, symbols, list, counts, out)
-        }
+    check_buffer(b, trees, parts, symbols)?;
+    if !work_fits(trees, list.len(), tables.len(), counts.len()) {
+        return Err(Refusal {
+            number: row::ROOM,
+            tree: 0,
+        });
     }
+    write_again(b, trees, parts, symbols, list, counts, out)
 }

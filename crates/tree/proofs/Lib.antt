@@ -1,17 +1,7 @@
 pub mod Answers
 pub mod RawAgain
-pub mod LooseReturns
-pub mod FieldsReturns
-pub mod KindsReturns
-pub mod RangedReturns
-pub mod LimitsReturns
 pub mod OwnMode
-pub mod KindsUse
 pub mod TypesWords
 pub mod WordsFit
-pub mod WordsReturns
-pub mod WordsTree
 pub mod WordsAgain
 pub mod ListedLaws
-pub mod SizesReturns
-pub mod StoreReturns

@@ -1,24 +1,20 @@
--- What the sort of a tree says of its values, and one law for each return of the functions of src/plain.rt.
-use Prim.Native.Nat.{ℕ, zero, suc, ◌+◌, ◌*◌, ◌/◌, ◌%◌, ◌<◌, ◌≤◌}
-use mathlib.Core.Bool.{Bool, true, false, not}
-use mathlib.Core.Path.{◌≡◌, refl, sym, ap, ◌∙◌}
+-- What the sort of a tree says of its values; and that row 2 is silent on a tree within the limits of src/plain.rt.
+use Prim.Native.Nat.{ℕ, zero, suc, ◌+◌, ◌/◌, ◌%◌, ◌<◌, ◌≤◌}
+use mathlib.Core.Bool.{Bool, true, false}
+use mathlib.Core.Path.{◌≡◌, refl}
 use mathlib.Core.List.{List}
 use native.Mathlib.Omega.{arith}
-use borrow.Author.Tests.{le-leb, leb-true, eq-eqb, ne_eqb, not-false}
+use borrow.Author.Tests.{le-leb, leb-true, eq-eqb, ne_eqb}
 use lib.Dec.{leb, eqb}
 use Rattle.std.specs.Prelude.{if◌then◌else◌}
-use Rattle.format.specs.Width.{span_size, open_at, close_at}
+use Rattle.format.specs.Width.{open_at, close_at}
 use Rattle.format.specs.Part.{WordSpan, span_from, no_span}
+use Rattle.format.specs.Root.{range_fits}
 use Rattle.format.specs.Tree.{is_raw_kind}
 use Rattle.format.specs.WordList.{word_of, raw_from, no_close, word_fields}
 use Rattle.format.proofs.PartLaw.{span_same}
 use Rattle.tree.specs.Raw.{punct_raw, ident_raw, literal_raw, subtree_raw}
-use Rattle.pack.specs.declared.span.PackedSpan.{PackedSpan}
-use Rattle.tree.specs.declared.raw.RawPunct.{RawPunct}
-use Rattle.tree.specs.declared.raw.RawIdent.{RawIdent}
-use Rattle.tree.specs.declared.raw.RawLiteral.{RawLiteral}
-use Rattle.tree.specs.declared.raw.RawSubtree.{RawSubtree}
-use Rattle.tree.specs.Listed.{open_span, close_span, punct_at, ident_at, literal_at, subtree_at}
+use Rattle.tree.specs.Listed.{punct_at, ident_at, literal_at, subtree_at}
 use Rattle.tree.specs.Plain.{second_most, first_most, close_most, span_sum, Low, LowClose}
 
 -- ---- the sort
@@ -48,60 +44,6 @@ module _ (l : List ℕ) (n o c y : ℕ) where
       let b : eqb (word_of l n 0) 1 ≡ false = ne_eqb _ _ (λ (q : word_of l n 0 ≡ 1). absurd (omega arith)) in
       let d : eqb (word_of l n 0) 2 ≡ false = ne_eqb _ _ (λ (q : word_of l n 0 ≡ 2). absurd (omega arith)) in
       simp (a, b, d)
-
--- ---- the values
-
-module _ (l : List ℕ) (n i : ℕ) (p : PackedSpan) (e : p ≡ open_span l n i) where
-  pub punct_value : ◌≡◌ {A = RawPunct} (record { span = p; char = word_of l n 1; spacing = word_of l n 2 }) (punct_at l n i)
-  punct_value = rw e
-
-  pub ident_value : (y : ℕ) → ◌≡◌ {A = RawIdent} (record { span = p; symbol = y; raw = word_of l n 2 }) (ident_at l n i y)
-  ident_value y = rw e
-
-  pub literal_value : (y : ℕ)
-      → ◌≡◌ {A = RawLiteral} (record { span = p; symbol = y; kind = word_of l n 2 % 256; raw_count = word_of l n 2 / 256 % 256; suffix_len = word_of l n 2 / 65536 }) (literal_at l n i y)
-  literal_value y = rw e
-
-  pub subtree_value : (j : ℕ) (q : PackedSpan) → q ≡ close_span l n j
-      → ◌≡◌ {A = RawSubtree} (record { opening = p; closing = q; len = record { 0 = word_of l n 1 }; kind = word_of l n 2 }) (subtree_at l n i j)
-  subtree_value j q f = rw (e, f)
-
-pub ruleset value_cases = (punct_value, ident_value, literal_value, subtree_value)
-
--- ---- the limits
-
-never : {A : Type 0} → false ≡ true → A
-never q = let z : ◌≡◌ {A = ℕ} 0 1 = ap (λ (b : Bool). if b then 1 else 0) q in absurd (omega arith)
-
-module _ (x : ℕ) where
-  pub second_0 : x ≡ 0 → 2 ≡ second_most x
-  second_0 h = rw h
-
-  pub second_1 : x ≡ 1 → 1 ≡ second_most x
-  second_1 h = rw h
-
-  pub second_2 : x ≡ 2 → 10 ≡ second_most x
-  second_2 h = rw h
-
-  pub second_other : (x ≡ 0 → ⊥) → (x ≡ 1 → ⊥) → (x ≡ 2 → ⊥) → 3 ≡ second_most x
-  second_other f g h = simp (ne_eqb _ _ f, ne_eqb _ _ g, ne_eqb _ _ h)
-
-  pub first_0 : x ≡ 0 → 0xD7FF ≡ first_most x
-  first_0 h = rw h
-
-  pub first_other : (x ≡ 0 → ⊥) → 4294967294 ≡ first_most x
-  first_other h = simp (ne_eqb _ _ h)
-
-  pub close_3 : x ≡ 3 → span_size * 4294967295 ≡ close_most x
-  close_3 h = rw h
-
-  pub close_other : (x ≡ 3 → ⊥) → 0 ≡ close_most x
-  close_other h = simp (ne_eqb _ _ h)
-
-pub ends_there : (s e : ℕ) (r : Bool) → r ≡ leb (s + e) 4294967295 → r ≡ true → s + e ≤ 4294967295
-ends_there s e r q h = leb-true (s + e) 4294967295 (sym q ∙ h)
-
-pub ruleset limit_cases = (second_0, second_1, second_2, second_other, first_0, first_other, close_3, close_other, ends_there)
 
 -- ---- a tree within them
 
@@ -156,30 +98,5 @@ within (suc (suc zero)) w z h h₂ h₁ k e f = plain_literal w e z h₂ (leaf_c
 within (suc (suc (suc zero))) w z h h₂ h₁ k e f = plain_subtree w e z h₂ f
 within (suc (suc (suc (suc x)))) w z h h₂ h₁ k e f = absurd (omega arith)
 
-module _ (l : List ℕ) (n : ℕ) where
-  pub low_not : false ≡ true → Low (word_of l n)
-  low_not q = never q
-
-  pub low_is : (x : ℕ) → x ≡ word_of l n 0 → x ≤ 3 → (a : ℕ) → a ≡ second_most x → word_of l n 2 ≤ a → (b : ℕ) → b ≡ first_most x → word_of l n 1 ≤ b → true ≡ true → Low (word_of l n)
-  low_is x e h a ea ha b eb hb q = record { sort = rw e at h; first = rw (eb, e) at hb; second = rw (ea, e) at ha }
-
-  pub close_low_not : false ≡ true → LowClose (word_of l n)
-  close_low_not q = never q
-
-  pub close_low_is : (x : ℕ) → x ≡ word_of l n 0 → (c : ℕ) → c ≡ close_most x → (d : ℕ) → d ≡ span_sum (span_from (word_of l n) close_at) → d ≤ c → true ≡ true → LowClose (word_of l n)
-  close_low_is x e c ec d ed h q = record { close = rw (ec, ed, e) at h }
-
-  pub plain_not : false ≡ true → word_fields (word_of l n) ≡ true
-  plain_not q = never q
-
-  pub plain_is : (u : Bool) → (u ≡ true → Low (word_of l n)) → not u ≡ false → (v : Bool) → (v ≡ true → LowClose (word_of l n)) → not v ≡ false
-      → (x : Bool) → (x ≡ true → Ends (span_from (word_of l n) open_at)) → not x ≡ false → (y : Bool) → (y ≡ true → Ends (span_from (word_of l n) close_at))
-      → y ≡ true → word_fields (word_of l n) ≡ true
-  plain_is u fu gu v fv gv x fx gx y fy gy =
-      let a = fu (not-false u gu) in
-      within (word_of l n 0) (word_of l n) refl a.sort a.second a.first (fv (not-false v gv)).close (fx (not-false x gx)) (fy gy)
-
-  pub fields_plain : (x : Bool) → (x ≡ true → word_fields (word_of l n) ≡ true) → x ≡ true → true ≡ word_fields (word_of l n)
-  fields_plain x f h = sym (f h)
-
-pub ruleset plain_cases = (low_not, low_is, close_low_not, close_low_is, plain_not, plain_is, fields_plain)
+pub plain_fields : (w : ℕ → ℕ) → Low w → LowClose w → range_fits (span_from w open_at) ≡ true → range_fits (span_from w close_at) ≡ true → word_fields w ≡ true
+plain_fields w a b e f = within (w 0) w refl a.sort a.second a.first b.close (leb-true _ _ e) (leb-true _ _ f)

@@ -8,7 +8,7 @@ use native.Mathlib.Nat.{div-div-eq-div-mul}
 use borrow.Author.Tests.{leb-true}
 use lib.Dec.{leb, eqb}
 use lib.ListN.{length}
-use Rattle.std.specs.Prelude.{if◌then◌else◌}
+use Rattle.std.specs.Prelude.{if◌then◌else◌, Result}
 use Rattle.format.specs.Width.{open_at, close_at, tree_size}
 use Rattle.format.specs.Part.{span_list, span_from, no_span}
 use Rattle.format.specs.Fields.{is_scalar}
@@ -30,9 +30,9 @@ use Rattle.tree.specs.declared.types.Literal.{Literal}
 use Rattle.tree.specs.declared.types.Leaf.TheVariants as leaves
 use Rattle.tree.specs.declared.types.TokenTree.{TokenTree}
 use Rattle.tree.specs.declared.types.TokenTree.TheVariants as trees
-use Rattle.tree.specs.declared.words.WordsRead.TheVariants.{Got, Bad}
 use Rattle.tree.proofs.WordsFit.{three, punct_fit, ident_fit, literal_fit, subtree_fit}
 use Rattle.tree.proofs.TypesWords.{spacing_again, is_raw_again, delimiter_again, kind_again, one_word}
+use Rattle.std.specs.declared.result.Result.TheVariants as results
 
 -- ---- the words of the tree that was read
 
@@ -83,20 +83,17 @@ module _ (w : ℕ → ℕ) (h : word_fields w ≡ true) where
       go (suc (suc (suc zero))) e = again_subtree e
       go (suc (suc (suc (suc k)))) e = let l : w 0 ≤ 3 = leb-true (w 0) 3 (three w h).0 in absurd (omega arith)
 
-got_bad : {A : Type 0} (t : TokenTree) (k : ℕ) → Bad k ≡ Got t → A
-got_bad t k e = let z : ◌≡◌ {A = ℕ} 0 1 = cc in absurd (omega arith)
-
-got_same : (t u : TokenTree) → Got t ≡ Got u → t ≡ u
+got_same : (t u : TokenTree) → ◌≡◌ {A = Result TokenTree ℕ} (results.Ok t) (results.Ok u) → t ≡ u
 got_same t u e = cc
 
 -- what `tree_from_words` gives has the words that it was read from
-pub words_of_tree : (w : ℕ → ℕ) (t : TokenTree) → words_answer w ≡ Got t → tree_words_of t ≡ tree_list w
+pub words_of_tree : (w : ℕ → ℕ) (t : TokenTree) → words_answer w ≡ results.Ok t → tree_words_of t ≡ tree_list w
 unfolding words_answer
 words_of_tree w t e = go (word_fields w) refl
   where
     go : (x : Bool) → word_fields w ≡ x → tree_words_of t ≡ tree_list w
-    go true f = let d : Got (tree_from w) ≡ Got t = simp f at e in ap tree_words_of (sym (got_same (tree_from w) t d)) ∙ tree_words_again w f
-    go false f = let d : Bad 2 ≡ Got t = simp f at e in got_bad t 2 d
+    go true f = let d : ◌≡◌ {A = Result TokenTree ℕ} (results.Ok (tree_from w)) (results.Ok t) = simp f at e in ap tree_words_of (sym (got_same (tree_from w) t d)) ∙ tree_words_again w f
+    go false f = let d : ◌≡◌ {A = Result TokenTree ℕ} (results.Err 2) (results.Ok t) = simp f at e in cc
 
 -- ---- the tree of a tree's words
 
@@ -162,7 +159,7 @@ module _ (k r x : ℕ) (f : k ≤ 10) (g : r ≤ 255) (h : x ≤ 255) where
   word_suffix = omega arith
 
 literal_back : (p : Literal) → token_fits (trees.Leaf (leaves.Literal p)) ≡ true
-    → words_answer (word_of (tree_words_of (trees.Leaf (leaves.Literal p))) 0) ≡ Got (trees.Leaf (leaves.Literal p))
+    → words_answer (word_of (tree_words_of (trees.Leaf (leaves.Literal p))) 0) ≡ results.Ok (trees.Leaf (leaves.Literal p))
 unfolding words_answer tree_words_of tree_from raw_from token_fits
 literal_back p e =
     let k : ℕ = kind_number p.kind in
@@ -178,7 +175,7 @@ literal_back p e =
     simp (v, word_kind k r x f g h, word_count k r x f g h, word_suffix k r x f g h, a.0, b.most, c, a.2, b.back)
 
 -- the words of a tree whose fields are in range read as that tree
-pub tree_of_words : (t : TokenTree) → token_fits t ≡ true → words_answer (word_of (tree_words_of t) 0) ≡ Got t
+pub tree_of_words : (t : TokenTree) → token_fits t ≡ true → words_answer (word_of (tree_words_of t) 0) ≡ results.Ok t
 unfolding words_answer tree_words_of tree_from raw_from token_fits
 tree_of_words (trees.Leaf (leaves.Punct p)) e =
     let a = spacing_back p.spacing in

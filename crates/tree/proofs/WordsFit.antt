@@ -2,8 +2,7 @@
 use Prim.Native.Nat.{ℕ, ◌/◌, ◌%◌, ◌≤◌}
 use mathlib.Core.Bool.{Bool, true, ◌&&◌, ◌||◌}
 use mathlib.Core.Path.{◌≡◌}
-use native.Mathlib.Omega.{arith}
-use borrow.Author.Tests.{leb-true}
+use borrow.Author.Tests.{le-leb, leb-true, ne_eqb}
 use lib.Dec.{leb, eqb}
 use Rattle.std.specs.Prelude.{if◌then◌else◌}
 use Rattle.format.specs.Width.{open_at, close_at}
@@ -50,6 +49,6 @@ module _ (w : ℕ → ℕ) (h : word_fields w ≡ true) where
       let f : (span_fits s && span_fits t && leb (w 2) 3) ≡ true = (simp e at three).1 in
       leb-true (w 2) 3 (and₃ (span_fits s) (span_fits t) (leb (w 2) 3) f).2
 
-  -- what is no leaf is a subtree
-  pub sort_fit : (w 0 ≡ 0 → ⊥) → (w 0 ≡ 1 → ⊥) → (w 0 ≡ 2 → ⊥) → w 0 ≡ 3
-  sort_fit f g i = let l : w 0 ≤ 3 = leb-true (w 0) 3 three.0 in omega arith
+-- a leaf whose fields are in range
+pub leaf_fields : (w : ℕ → ℕ) → w 0 ≤ 3 → (w 0 ≡ 3 → ⊥) → fields (raw_from 0 0 0 w) ≡ true → no_close w ≡ word_fields w
+leaf_fields w h k e = simp (le-leb (w 0) 3 h, ne_eqb (w 0) 3 k, e)

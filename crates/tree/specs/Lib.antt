@@ -2,6 +2,7 @@ pub mod Loose
 pub mod Raw
 pub mod Types
 pub mod Mode
+pub mod Tables
 pub mod Words
 pub mod Refusal
 pub mod Listed

@@ -1,5 +1,5 @@
 -- The definitions' tree with indices as a value of this crate, case by case, and back.
-use Rattle.std.specs.Prelude.{if◌then◌else◌}
+use Rattle.std.specs.Prelude.{ℕ, if◌then◌else◌, Result, Ok, Err}
 use Rattle.format.specs.Reader.{Reply, got, bad}
 use Rattle.format.specs.Tree.{Raw, punct, ident, literal, subtree}
 use Rattle.format.specs.Fields.{fields}
@@ -10,8 +10,7 @@ use Rattle.tree.specs.declared.raw.RawLiteral.{RawLiteral}
 use Rattle.tree.specs.declared.raw.RawSubtree.{RawSubtree}
 use Rattle.tree.specs.declared.raw.RawTree.{RawTree}
 use Rattle.tree.specs.declared.raw.RawTree.TheVariants.{Punct, Ident, Literal, Subtree}
-use Rattle.tree.specs.declared.raw.RawRead.{RawRead}
-use Rattle.tree.specs.declared.raw.RawRead.TheVariants.{Got, Bad}
+use Rattle.tree.specs.declared.raw.At.{At}
 
 unfoldable pub raw_tree : Raw → RawTree
 raw_tree (punct s c x) = Punct (record { span = packed_of s; char = c; spacing = x })
@@ -38,10 +37,13 @@ raw_of (Ident p) = ident_raw p
 raw_of (Literal p) = literal_raw p
 raw_of (Subtree p) = subtree_raw p
 
+abbrev pub RawAt : Type 0
+RawAt = At RawTree
+
 -- what reading one tree answers
-unfoldable pub raw_answer : Reply Raw → RawRead
-raw_answer (got t next kids) = Got (record { tree = raw_tree t; next = next; children = record { 0 = kids } })
-raw_answer (bad r) = Bad r
+unfoldable pub raw_answer : Reply Raw → Result RawAt ℕ
+raw_answer (got t next kids) = Ok (record { tree = raw_tree t; next = next; children = record { 0 = kids } })
+raw_answer (bad r) = Err r
 
 -- a tree that was read, if its fields are in range: a close span's start may lie past every number that a field can hold
 unfoldable pub in_range : Reply Raw → Reply Raw

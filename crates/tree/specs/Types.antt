@@ -1,5 +1,5 @@
 -- The source's kinds of numbers; its tree of a tree with indices, by the entries of the tables; and the list words of such a tree.
-use Rattle.std.specs.Prelude.{ℕ, ◌+◌, ◌*◌, ◌%◌, List, ◌∷◌, ◌++◌, get_or, ◌&&◌, leb, eqb, if◌then◌else◌}
+use Rattle.std.specs.Prelude.{ℕ, ◌+◌, ◌*◌, ◌%◌, List, ◌∷◌, ◌++◌, get_or, ◌&&◌, leb, eqb, if◌then◌else◌, Result}
 use Rattle.format.specs.Tree.{is_raw_kind, Raw, punct, ident, literal, subtree}
 use Rattle.format.specs.Span as format
 use Rattle.format.specs.Part as words
@@ -14,19 +14,12 @@ use Rattle.tree.specs.declared.types.DelimiterKind.{DelimiterKind}
 use Rattle.tree.specs.declared.types.DelimiterKind.TheVariants.{Parenthesis, Brace, Bracket, Invisible}
 use Rattle.tree.specs.declared.types.LitKind.{LitKind}
 use Rattle.tree.specs.declared.types.LitKind.TheVariants.{Byte, Char, Integer, Float, Str, StrRaw, ByteStr, ByteStrRaw, CStr, CStrRaw, Err}
-use Rattle.tree.specs.declared.kinds.SpacingRead.{SpacingRead}
-use Rattle.tree.specs.declared.kinds.SpacingRead.TheVariants as spacings
-use Rattle.tree.specs.declared.kinds.IsRawRead.{IsRawRead}
-use Rattle.tree.specs.declared.kinds.IsRawRead.TheVariants as raws
-use Rattle.tree.specs.declared.kinds.DelimiterRead.{DelimiterRead}
-use Rattle.tree.specs.declared.kinds.DelimiterRead.TheVariants as delimiters
-use Rattle.tree.specs.declared.kinds.LitKindRead.{LitKindRead}
-use Rattle.tree.specs.declared.kinds.LitKindRead.TheVariants as kinds
 use Rattle.tree.specs.declared.types.Subtree.{Subtree}
 use Rattle.tree.specs.declared.types.Leaf.{Leaf}
 use Rattle.tree.specs.declared.types.Leaf.TheVariants as leaves
 use Rattle.tree.specs.declared.types.TokenTree.{TokenTree}
 use Rattle.tree.specs.declared.types.TokenTree.TheVariants as trees
+use Rattle.std.specs.declared.result.Result.TheVariants as results
 
 -- ---- from numbers that are in range
 
@@ -56,20 +49,20 @@ lit_kind_of k r =
 -- ---- from any number: "`transmute`: a match with refusal 2"
 
 -- "spacing (0 to 2)"
-unfoldable pub spacing_answer : ℕ → SpacingRead
-spacing_answer x = if leb x 2 then spacings.Got (spacing_of x) else spacings.Bad 2
+unfoldable pub spacing_answer : ℕ → Result Spacing ℕ
+spacing_answer x = if leb x 2 then results.Ok (spacing_of x) else results.Err 2
 
 -- "raw (0 or 1)"
-unfoldable pub is_raw_answer : ℕ → IsRawRead
-is_raw_answer x = if leb x 1 then raws.Got (is_raw_of x) else raws.Bad 2
+unfoldable pub is_raw_answer : ℕ → Result IdentIsRaw ℕ
+is_raw_answer x = if leb x 1 then results.Ok (is_raw_of x) else results.Err 2
 
 -- "delimiter kind (0 to 3)"
-unfoldable pub delimiter_answer : ℕ → DelimiterRead
-delimiter_answer d = if leb d 3 then delimiters.Got (delimiter_of d) else delimiters.Bad 2
+unfoldable pub delimiter_answer : ℕ → Result DelimiterKind ℕ
+delimiter_answer d = if leb d 3 then results.Ok (delimiter_of d) else results.Err 2
 
 -- "Literal kinds 0 to 10", "The raw count is zero except for kinds 5, 7, 9; it and the suffix length are at most 255."
-unfoldable pub lit_kind_answer : ℕ → ℕ → LitKindRead
-lit_kind_answer k r = if leb k 10 && (if is_raw_kind k then leb r 255 else eqb r 0) then kinds.Got (lit_kind_of k r) else kinds.Bad 2
+unfoldable pub lit_kind_answer : ℕ → ℕ → Result LitKind ℕ
+lit_kind_answer k r = if leb k 10 && (if is_raw_kind k then leb r 255 else eqb r 0) then results.Ok (lit_kind_of k r) else results.Err 2
 
 -- ---- the definitions' span of the source's, and back
 

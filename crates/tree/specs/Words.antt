@@ -1,5 +1,5 @@
 -- One tree of a list by its own words: its entries are the words themselves, so no tables are asked for.
-use Rattle.std.specs.Prelude.{ℕ, ◌/◌, ◌%◌, Bool, ◌&&◌, leb, eqb, if◌then◌else◌}
+use Rattle.std.specs.Prelude.{ℕ, ◌/◌, ◌%◌, Bool, ◌&&◌, leb, eqb, if◌then◌else◌, Result}
 use Rattle.format.specs.Fields.{is_scalar}
 use Rattle.format.specs.Width.{open_at, close_at}
 use Rattle.format.specs.Part.{span_from}
@@ -13,10 +13,8 @@ use Rattle.tree.specs.declared.types.LitKind.TheVariants.{StrRaw, ByteStrRaw, CS
 use Rattle.tree.specs.declared.types.Leaf.TheVariants as leaves
 use Rattle.tree.specs.declared.types.TokenTree.{TokenTree}
 use Rattle.tree.specs.declared.types.TokenTree.TheVariants as trees
-use Rattle.tree.specs.declared.words.WordsRead.{WordsRead}
-use Rattle.tree.specs.declared.words.WordsRead.TheVariants.{Got, Bad}
-use Rattle.tree.specs.declared.words.RawWords.{RawWords}
-use Rattle.tree.specs.declared.words.RawWords.TheVariants as raws
+use Rattle.tree.specs.declared.raw.RawTree.{RawTree}
+use Rattle.std.specs.declared.result.Result.TheVariants as results
 
 -- "Word 0: 0 punct, 1 ident, 2 literal, 3 subtree. Words 1, 2: punct character, spacing; ident symbol, raw;
 -- literal symbol, then kind + 256 × raw count + 65,536 × suffix length; subtree descendant count, delimiter kind"
@@ -43,12 +41,12 @@ tree_from w =
     subtree_from (w 1) (w 2) s (tree_span (span_from w close_at))))
 
 -- row 2 first
-unfoldable pub words_answer : (ℕ → ℕ) → WordsRead
-words_answer w = if word_fields w then Got (tree_from w) else Bad 2
+unfoldable pub words_answer : (ℕ → ℕ) → Result TokenTree ℕ
+words_answer w = if word_fields w then results.Ok (tree_from w) else results.Err 2
 
 -- the same with the indices of its open and close part and of its symbol
-unfoldable pub raw_words_answer : ℕ → ℕ → ℕ → (ℕ → ℕ) → RawWords
-raw_words_answer o c y w = if word_fields w then raws.Got (raw_tree (raw_from o c y w)) else raws.Bad 2
+unfoldable pub raw_words_answer : ℕ → ℕ → ℕ → (ℕ → ℕ) → Result RawTree ℕ
+raw_words_answer o c y w = if word_fields w then results.Ok (raw_tree (raw_from o c y w)) else results.Err 2
 
 -- ---- row 2 of the source's tree: what its types leave open
 

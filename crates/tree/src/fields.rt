@@ -1,4 +1,6 @@
 // Row 2 for one tree with indices: whether its fields are in range.
+#![tactic(auto, unfolding(crate::specs::Raw::raw_of))]
+
 ghost use Rattle.std.specs.Prelude.{◌≡◌, leb, eqb, if◌then◌else◌};
 ghost use Rattle.format.specs.Fields.{span_fits, is_scalar, fields};
 ghost use Rattle.format.specs.Tree.{is_raw_kind};
@@ -18,114 +20,48 @@ fn span_fits(span: PackedSpan) -> bool
 pub fn is_scalar(c: u32) -> bool
     ensures { result ≡ is_scalar c }
 {
-    if c <= 0xD7FF {
-        return true;
-    }
-    if c < 0xE000 {
-        return false;
-    }
-    if 0x10FFFF < c {
-        return false;
-    }
-    true
+    c <= 0xD7FF || 0xE000 <= c && c <= 0x10FFFF
 }
 
 // The kinds StrRaw, ByteStrRaw and CStrRaw.
 pub fn is_raw_kind(kind: u32) -> bool
     ensures { result ≡ is_raw_kind kind }
 {
-    match kind {
-        5 => true,
-        7 => true,
-        9 => true,
-        _ => false,
-    }
+    kind == 5 || kind == 7 || kind == 9
 }
 
 fn punct_fits(p: RawPunct) -> bool
     ensures { result ≡ fields (punct_raw p) }
 {
-    let span = p.span;
-    if !span_fits(span) {
-        return false;
-    }
-    if !is_scalar(p.char) {
-        return false;
-    }
-    if 2 < p.spacing {
-        return false;
-    }
-    true
+    span_fits(p.span) && is_scalar(p.char) && p.spacing <= 2
 }
 
 fn ident_fits(p: RawIdent) -> bool
     ensures { result ≡ fields (ident_raw p) }
 {
-    let span = p.span;
-    if !span_fits(span) {
-        return false;
-    }
-    if 1 < p.raw {
-        return false;
-    }
-    true
-}
-
-fn is_zero(x: u32) -> bool
-    ensures { result ≡ eqb x 0 }
-{
-    match x {
-        0 => true,
-        _ => false,
-    }
+    span_fits(p.span) && p.raw <= 1
 }
 
 pub(crate) fn raw_count_fits(kind: u32, raw_count: u32) -> bool
     ensures { result ≡ (if is_raw_kind kind then leb raw_count 255 else eqb raw_count 0) }
 {
-    if !is_raw_kind(kind) {
-        return is_zero(raw_count);
+    if is_raw_kind(kind) {
+        raw_count <= 255
+    } else {
+        raw_count == 0
     }
-    if 255 < raw_count {
-        return false;
-    }
-    true
 }
 
 fn literal_fits(p: RawLiteral) -> bool
     ensures { result ≡ fields (literal_raw p) }
 {
-    let span = p.span;
-    if !span_fits(span) {
-        return false;
-    }
-    if 10 < p.kind {
-        return false;
-    }
-    if !raw_count_fits(p.kind, p.raw_count) {
-        return false;
-    }
-    if 255 < p.suffix_len {
-        return false;
-    }
-    true
+    span_fits(p.span) && p.kind <= 10 && raw_count_fits(p.kind, p.raw_count) && p.suffix_len <= 255
 }
 
 pub fn subtree_fits(p: RawSubtree) -> bool
     ensures { result ≡ fields (subtree_raw p) }
 {
-    let opening = p.opening;
-    let closing = p.closing;
-    if !span_fits(opening) {
-        return false;
-    }
-    if !span_fits(closing) {
-        return false;
-    }
-    if 3 < p.kind {
-        return false;
-    }
-    true
+    span_fits(p.opening) && span_fits(p.closing) && p.kind <= 3
 }
 
 // Whether all fields of a tree are in range.

@@ -1,121 +1,66 @@
-// The numbers of the list words as the source's kinds, or 2 where they are none, and back.
+// The numbers of the list words as the source's kinds, or row 2 where they are none, and back.
+#![tactic(auto, unfolding(crate::specs::Types::spacing_answer, crate::specs::Types::is_raw_answer, crate::specs::Types::delimiter_answer, crate::specs::Types::lit_kind_answer, crate::specs::Types::lit_kind_word))]
+
 ghost use Rattle.std.specs.Prelude.{◌≡◌, ◌+◌, ◌*◌, ◌<◌};
 ghost use Rattle.tree.specs.Types.{spacing_answer, is_raw_answer, delimiter_answer, lit_kind_answer};
-ghost use Rattle.tree.specs.Types.{spacing_word, is_raw_word, delimiter_word, lit_kind_word};
+ghost use Rattle.tree.specs.Types.{lit_kind_word};
 
 use crate::fields::raw_count_fits;
+use crate::ranged::{delimiter_of, is_raw_of, lit_kind_of, spacing_of};
 use crate::types::{DelimiterKind, IdentIsRaw, LitKind, Spacing};
+use pack::row;
+use pack::row::Row;
 
-// Each answers a kind, or the refusal's number.
-#[derive(Clone, Copy)]
-pub enum SpacingRead {
-    Got(Spacing),
-    Bad(u32),
-}
+impl TryFrom<u32> for Spacing {
+    type Error = Row;
 
-#[derive(Clone, Copy)]
-pub enum IsRawRead {
-    Got(IdentIsRaw),
-    Bad(u32),
-}
+    ghost try_from_gives = { λ x r. r ≡ spacing_answer x };
 
-#[derive(Clone, Copy)]
-pub enum DelimiterRead {
-    Got(DelimiterKind),
-    Bad(u32),
-}
-
-#[derive(Clone, Copy)]
-pub enum LitKindRead {
-    Got(LitKind),
-    Bad(u32),
-}
-
-pub fn spacing_from(x: u32) -> SpacingRead
-    ensures { result ≡ spacing_answer x }
-{
-    match x {
-        0 => SpacingRead::Got(Spacing::Alone),
-        1 => SpacingRead::Got(Spacing::Joint),
-        2 => SpacingRead::Got(Spacing::JointHidden),
-        _ => SpacingRead::Bad(2),
+    fn try_from(x: u32) -> Result<Self, Row> {
+        if x <= 2 {
+            Ok(spacing_of(x))
+        } else {
+            Err(row::FIELD)
+        }
     }
 }
 
-pub fn is_raw_from(x: u32) -> IsRawRead
-    ensures { result ≡ is_raw_answer x }
-{
-    match x {
-        0 => IsRawRead::Got(IdentIsRaw::No),
-        1 => IsRawRead::Got(IdentIsRaw::Yes),
-        _ => IsRawRead::Bad(2),
+impl TryFrom<u32> for IdentIsRaw {
+    type Error = Row;
+
+    ghost try_from_gives = { λ x r. r ≡ is_raw_answer x };
+
+    fn try_from(x: u32) -> Result<Self, Row> {
+        if x <= 1 {
+            Ok(is_raw_of(x))
+        } else {
+            Err(row::FIELD)
+        }
     }
 }
 
-pub fn delimiter_from(d: u32) -> DelimiterRead
-    ensures { result ≡ delimiter_answer d }
-{
-    match d {
-        0 => DelimiterRead::Got(DelimiterKind::Parenthesis),
-        1 => DelimiterRead::Got(DelimiterKind::Brace),
-        2 => DelimiterRead::Got(DelimiterKind::Bracket),
-        3 => DelimiterRead::Got(DelimiterKind::Invisible),
-        _ => DelimiterRead::Bad(2),
+impl TryFrom<u32> for DelimiterKind {
+    type Error = Row;
+
+    ghost try_from_gives = { λ d r. r ≡ delimiter_answer d };
+
+    fn try_from(d: u32) -> Result<Self, Row> {
+        if d <= 3 {
+            Ok(delimiter_of(d))
+        } else {
+            Err(row::FIELD)
+        }
     }
 }
 
 // A raw count belongs to three of the kinds.
-pub fn lit_kind_from(kind: u32, raw_count: u32) -> LitKindRead
+pub fn lit_kind_from(kind: u32, raw_count: u32) -> Result<LitKind, Row>
     ensures { result ≡ lit_kind_answer kind raw_count }
 {
-    if !raw_count_fits(kind, raw_count) {
-        return LitKindRead::Bad(2);
-    }
-    match kind {
-        0 => LitKindRead::Got(LitKind::Byte),
-        1 => LitKindRead::Got(LitKind::Char),
-        2 => LitKindRead::Got(LitKind::Integer),
-        3 => LitKindRead::Got(LitKind::Float),
-        4 => LitKindRead::Got(LitKind::Str),
-        5 => LitKindRead::Got(LitKind::StrRaw(raw_count)),
-        6 => LitKindRead::Got(LitKind::ByteStr),
-        7 => LitKindRead::Got(LitKind::ByteStrRaw(raw_count)),
-        8 => LitKindRead::Got(LitKind::CStr),
-        9 => LitKindRead::Got(LitKind::CStrRaw(raw_count)),
-        10 => LitKindRead::Got(LitKind::Err),
-        _ => LitKindRead::Bad(2),
-    }
-}
-
-// ---- and back
-
-pub(crate) fn spacing_word(x: Spacing) -> u32
-    ensures { result ≡ spacing_word x }
-{
-    match x {
-        Spacing::Alone => 0,
-        Spacing::Joint => 1,
-        Spacing::JointHidden => 2,
-    }
-}
-
-pub(crate) fn is_raw_word(x: IdentIsRaw) -> u32
-    ensures { result ≡ is_raw_word x }
-{
-    match x {
-        IdentIsRaw::No => 0,
-        IdentIsRaw::Yes => 1,
-    }
-}
-
-pub(crate) fn delimiter_word(d: DelimiterKind) -> u32
-    ensures { result ≡ delimiter_word d }
-{
-    match d {
-        DelimiterKind::Parenthesis => 0,
-        DelimiterKind::Brace => 1,
-        DelimiterKind::Bracket => 2,
-        DelimiterKind::Invisible => 3,
+    if kind <= 10 && raw_count_fits(kind, raw_count) {
+        Ok(lit_kind_of(kind, raw_count))
+    } else {
+        Err(row::FIELD)
     }
 }
 

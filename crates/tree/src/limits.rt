@@ -12,24 +12,17 @@ pub struct Limits {
     pub symbols: usize,
 }
 
-// All but the last two, which are the root's.
-fn below_root(parts: usize) -> usize
-    ensures { result ≡ parts - 2 }
-{
-    if parts < 2 {
-        return 0;
-    }
-    parts - 2
-}
+// The last two parts are the root's.
+const ROOT_PARTS: usize = 2;
 
 // Of tables with so many parts and symbols.
 pub fn own_limits(parts: usize, symbols: usize) -> Limits
     ensures { (limits_of result ≡ own_limits parts symbols) × (result.limit ≡ parts - 2) }
 {
-    let below = below_root(parts);
+    let below = parts.saturating_sub(ROOT_PARTS);
     Limits {
         limit: below,
         root: below,
-        symbols: symbols,
+        symbols,
     }
 }

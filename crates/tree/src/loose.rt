@@ -1,4 +1,6 @@
 // What reading a tree says of the forms of its spans, beside the tree and never in it.
+#![tactic(auto, unfolding(crate::specs::Loose::loose_of))]
+
 ghost use Rattle.std.specs.Prelude.{◌≡◌};
 ghost use Rattle.format.specs.Loose.{bit, loose_leaf, loose_shared, loose_both};
 ghost use Rattle.tree.specs.Loose.{loose_of};
@@ -32,36 +34,26 @@ pub struct ReportedTree {
 pub fn leaf_loose(first: bool) -> Loose
     ensures { loose_of result ≡ loose_leaf first }
 {
-    if first {
-        return Loose::Opening;
-    }
-    Loose::None
+    if first { Loose::Opening } else { Loose::None }
 }
 
 // A subtree whose close span has no bytes of its own.
 pub fn shared_loose(first: bool) -> Loose
     ensures { loose_of result ≡ loose_shared first }
 {
-    if first {
-        return Loose::Shared;
-    }
-    Loose::None
+    if first { Loose::Shared } else { Loose::None }
 }
 
 // A subtree that stores both spans.
 pub fn both_loose(first: bool, close: bool) -> Loose
     ensures { loose_of result ≡ loose_both first close }
 {
-    if first {
-        if close {
-            return Loose::Both;
-        }
-        return Loose::Opening;
+    match (first, close) {
+        (true, true) => Loose::Both,
+        (true, false) => Loose::Opening,
+        (false, true) => Loose::Closing,
+        (false, false) => Loose::None,
     }
-    if close {
-        return Loose::Closing;
-    }
-    Loose::None
 }
 
 // ---- what it says
@@ -70,25 +62,13 @@ pub fn both_loose(first: bool, close: bool) -> Loose
 pub fn opening_loose(loose: Loose) -> bool
     ensures { result ≡ (loose_of loose).opening }
 {
-    match loose {
-        Loose::None => false,
-        Loose::Opening => true,
-        Loose::Closing => false,
-        Loose::Shared => true,
-        Loose::Both => true,
-    }
+    matches!(loose, Loose::Opening | Loose::Shared | Loose::Both)
 }
 
 pub fn closing_loose(loose: Loose) -> bool
     ensures { result ≡ (loose_of loose).closing }
 {
-    match loose {
-        Loose::None => false,
-        Loose::Opening => false,
-        Loose::Closing => true,
-        Loose::Shared => true,
-        Loose::Both => true,
-    }
+    matches!(loose, Loose::Closing | Loose::Shared | Loose::Both)
 }
 
 // How many of the spans that the tree stores.
@@ -97,9 +77,7 @@ pub fn loose_spans(loose: Loose) -> u32
 {
     match loose {
         Loose::None => 0,
-        Loose::Opening => 1,
-        Loose::Closing => 1,
-        Loose::Shared => 1,
+        Loose::Opening | Loose::Closing | Loose::Shared => 1,
         Loose::Both => 2,
     }
 }
@@ -108,8 +86,5 @@ pub fn loose_spans(loose: Loose) -> u32
 pub fn bit(loose: bool) -> u32
     ensures { result ≡ bit loose }
 {
-    if loose {
-        return 1;
-    }
-    0
+    loose as u32
 }

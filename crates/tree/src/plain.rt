@@ -7,6 +7,8 @@ ghost use Rattle.format.specs.WordList.{list_count, word_of, word_fields};
 ghost use Rattle.tree.specs.Plain.{second_most, first_most, close_most, span_sum, Low, LowClose};
 
 use crate::listed::sort_at;
+use crate::sort;
+use crate::sort::Sort;
 use crate::words::word_fields;
 use pack::span::range_fits;
 use width::{
@@ -17,56 +19,42 @@ use width::{
 // No sum of a closing span's words is above it.
 const CLOSE_MOST: u64 = SPAN_WORDS as u64 * 4294967295;
 
-fn second_most(sort: u32) -> u32
+fn second_most(sort: Sort) -> u32
     ensures { result ≡ second_most sort }
 {
     match sort {
-        0 => 2,
-        1 => 1,
-        2 => 10,
+        sort::PUNCT => 2,
+        sort::IDENT => 1,
+        sort::LITERAL => 10,
         _ => 3,
     }
 }
 
-fn first_most(sort: u32) -> u32
+fn first_most(sort: Sort) -> u32
     ensures { result ≡ first_most sort }
 {
-    match sort {
-        0 => 0xD7FF,
-        _ => 4294967294,
+    if sort == sort::PUNCT {
+        0xD7FF
+    } else {
+        4294967294
     }
 }
 
-fn close_most(sort: u32) -> u64
+fn close_most(sort: Sort) -> u64
     ensures { result ≡ close_most sort }
 {
-    match sort {
-        3 => CLOSE_MOST,
-        _ => 0,
-    }
-}
-
-fn wide(x: u32) -> u64
-    ensures { (result ≡ x) × (result < 4294967296) }
-{
-    x as u64
+    if sort == sort::SUBTREE { CLOSE_MOST } else { 0 }
 }
 
 fn close_sum(l: &[u32], n: usize) -> u64
     requires { n < list_count l.now }
     ensures { result ≡ span_sum (span_from (word_of l.now n) close_at) }
 {
-    wide(l[TREE_WORDS * n + CLOSE_FILE])
-        + wide(l[TREE_WORDS * n + CLOSE_AST])
-        + wide(l[TREE_WORDS * n + CLOSE_CONTEXT])
-        + wide(l[TREE_WORDS * n + CLOSE_START])
-        + wide(l[TREE_WORDS * n + CLOSE_LEN])
-}
-
-fn span_ends(start: u32, len: u32) -> bool
-    ensures { (result ≡ true) → (start + len ≤ 4294967295) }
-{
-    range_fits(start, len)
+    l[TREE_WORDS * n + CLOSE_FILE] as u64
+        + l[TREE_WORDS * n + CLOSE_AST] as u64
+        + l[TREE_WORDS * n + CLOSE_CONTEXT] as u64
+        + l[TREE_WORDS * n + CLOSE_START] as u64
+        + l[TREE_WORDS * n + CLOSE_LEN] as u64
 }
 
 // Whether the first three words of tree n keep to the limits.
@@ -75,16 +63,9 @@ fn is_low(l: &[u32], n: usize) -> bool
     ensures { (result ≡ true) → Low (word_of l.now n) }
 {
     let sort = sort_at(l, n);
-    if 3 < sort {
-        return false;
-    }
-    if second_most(sort) < l[TREE_WORDS * n + 2] {
-        return false;
-    }
-    if first_most(sort) < l[TREE_WORDS * n + 1] {
-        return false;
-    }
-    true
+    sort <= 3
+        && l[TREE_WORDS * n + 2] <= second_most(sort)
+        && l[TREE_WORDS * n + 1] <= first_most(sort)
 }
 
 // Whether the sum of the closing span's words does.
@@ -92,10 +73,7 @@ fn is_low_close(l: &[u32], n: usize) -> bool
     requires { n < list_count l.now }
     ensures { (result ≡ true) → LowClose (word_of l.now n) }
 {
-    if close_most(sort_at(l, n)) < close_sum(l, n) {
-        return false;
-    }
-    true
+    close_sum(l, n) <= close_most(sort_at(l, n))
 }
 
 // Whether tree n keeps to the limits, and its spans end in range.
@@ -103,19 +81,13 @@ fn is_plain(l: &[u32], n: usize) -> bool
     requires { n < list_count l.now }
     ensures { (result ≡ true) → (word_fields (word_of l.now n) ≡ true) }
 {
-    if !is_low(l, n) {
-        return false;
-    }
-    if !is_low_close(l, n) {
-        return false;
-    }
-    if !span_ends(l[TREE_WORDS * n + OPEN_START], l[TREE_WORDS * n + OPEN_LEN]) {
-        return false;
-    }
-    span_ends(
-        l[TREE_WORDS * n + CLOSE_START],
-        l[TREE_WORDS * n + CLOSE_LEN],
-    )
+    is_low(l, n)
+        && is_low_close(l, n)
+        && range_fits(l[TREE_WORDS * n + OPEN_START], l[TREE_WORDS * n + OPEN_LEN])
+        && range_fits(
+            l[TREE_WORDS * n + CLOSE_START],
+            l[TREE_WORDS * n + CLOSE_LEN],
+        )
 }
 
 // Whether row 2 is silent at tree n.
@@ -123,8 +95,5 @@ pub fn fields_at(l: &[u32], n: usize) -> bool
     requires { n < list_count l.now }
     ensures { result ≡ word_fields (word_of l.now n) }
 {
-    if is_plain(l, n) {
-        return true;
-    }
-    word_fields(l, n)
+    is_plain(l, n) || word_fields(l, n)
 }

@@ -1,4 +1,6 @@
 // The source's kinds of numbers that row 2 has passed: a match without a refusal, which would be tried again in vain.
+#![tactic(auto, unfolding(crate::specs::Types::spacing_of, crate::specs::Types::is_raw_of, crate::specs::Types::delimiter_of, crate::specs::Types::lit_kind_of))]
+
 ghost use Rattle.std.specs.Prelude.{◌≡◌, ◌≤◌};
 ghost use Rattle.tree.specs.Types.{spacing_of, is_raw_of, delimiter_of, lit_kind_of};
 

@@ -51,18 +51,14 @@ pub enum RawTree {
 
 // A tree that was read, the place behind it, and a subtree's children bytes.
 #[derive(Clone, Copy)]
-pub struct RawAt {
-    pub tree: RawTree,
+pub struct At<T> {
+    pub tree: T,
     pub next: usize,
     pub children: ChildrenBytes,
 }
 
-#[derive(Clone, Copy)]
-pub enum RawRead {
-    Got(RawAt),
-    // The refusal's number.
-    Bad(u32),
-}
+// With its indices.
+pub type RawAt = At<RawTree>;
 
 // An index as a place: two more than it is still a place.
 pub fn place(index: u32) -> usize

@@ -1,19 +1,8 @@
-// Answers of whole lists and buffers: a refusal has its number and the tree that it names.
-#[derive(Clone, Copy)]
+// Why a whole list or buffer is refused: the number of the row, and the tree that it names.
+use pack::row::Row;
+
+#[derive(Clone, Copy, Debug, PartialEq, Eq, Hash)]
 pub struct Refusal {
-    pub number: u32,
+    pub number: Row,
     pub tree: u32,
-}
-
-#[derive(Clone, Copy)]
-pub enum Verdict {
-    Passed,
-    Refused(Refusal),
-}
-
-#[derive(Clone, Copy)]
-pub enum Report {
-    // How much was written.
-    Wrote(usize),
-    Refused(Refusal),
 }

@@ -16,37 +16,19 @@ const MOST_SYMBOLS: usize = 1048576;
 pub fn trees_sized(trees: u32) -> bool
     ensures { result ≡ (leb 1 trees && leb trees 1048576) }
 {
-    if trees < 1 {
-        return false;
-    }
-    if MOST_TREES < trees {
-        return false;
-    }
-    true
+    1 <= trees && trees <= MOST_TREES
 }
 
 // So many parts and symbols.
 pub fn counts_sized(parts: usize, symbols: usize) -> bool
     ensures { result ≡ tables_sized parts symbols }
 {
-    if parts < LEAST_PARTS {
-        return false;
-    }
-    if MOST_PARTS < parts {
-        return false;
-    }
-    if MOST_SYMBOLS < symbols {
-        return false;
-    }
-    true
+    LEAST_PARTS <= parts && parts <= MOST_PARTS && symbols <= MOST_SYMBOLS
 }
 
 // These part words and symbols.
 pub fn tables_sized(parts: &[u32], symbols: &[u32]) -> bool
     ensures { result ≡ (own_tables parts.now symbols.now).sized }
 {
-    if parts.len() % PART_WORDS != 0 {
-        return false;
-    }
-    counts_sized(parts.len() / PART_WORDS, symbols.len())
+    parts.len() % PART_WORDS == 0 && counts_sized(parts.len() / PART_WORDS, symbols.len())
 }

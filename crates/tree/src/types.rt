@@ -1,7 +1,7 @@
 // The types of the source, by value. A symbol is its table entry; characters and numbers are those of the list words.
 use crate::raw::Descendants;
 
-#[derive(Clone, Copy)]
+#[derive(Clone, Copy, PartialEq, Eq)]
 pub struct Span {
     pub file: u32,
     pub ast_id: u32,
@@ -10,20 +10,20 @@ pub struct Span {
     pub len: u32,
 }
 
-#[derive(Clone, Copy)]
+#[derive(Clone, Copy, PartialEq, Eq)]
 pub enum Spacing {
     Alone,
     Joint,
     JointHidden,
 }
 
-#[derive(Clone, Copy)]
+#[derive(Clone, Copy, PartialEq, Eq)]
 pub enum IdentIsRaw {
     No,
     Yes,
 }
 
-#[derive(Clone, Copy)]
+#[derive(Clone, Copy, PartialEq, Eq)]
 pub enum DelimiterKind {
     Parenthesis,
     Brace,
@@ -31,7 +31,7 @@ pub enum DelimiterKind {
     Invisible,
 }
 
-#[derive(Clone, Copy)]
+#[derive(Clone, Copy, PartialEq, Eq)]
 pub enum LitKind {
     Byte,
     Char,

@@ -6,9 +6,5 @@ pub fn put_words(list: &mut [u32], at: usize, words: &[u32])
     requires { at + length words.now ≤ length list.old }
     ensures { list.new ≡ put list.old at words.now }
 {
-    let mut i: usize = 0;
-    while i < words.len() {
-        list[at + i] = words[i];
-        i = i + 1;
-    }
+    list[at..at + words.len()].copy_from_slice(words);
 }

@@ -1,298 +1,154 @@
 // One tree by its list words, where row 2 is silent on them, and its words again.
-ghost use Rattle.std.specs.Prelude.{◌≡◌, ◌∷◌, ◌++◌, true, ◌+◌, ◌*◌, ◌/◌, ◌%◌, ◌<◌, ◌≤◌, leb, eqb, if◌then◌else◌};
+ghost use Rattle.std.specs.Prelude.{◌≡◌, ◌∷◌, ◌++◌, true, ◌+◌, ◌*◌, ◌%◌, ◌<◌, ◌≤◌};
 ghost use Rattle.format.specs.Width.{span_size, tree_size};
 ghost use Rattle.format.specs.Part.{span_from};
-ghost use Rattle.format.specs.Tree.{is_raw_kind};
-ghost use Rattle.format.specs.WordList.{word_of, raw_from, no_close, word_fields};
-ghost use Rattle.tree.specs.Listed.{open_span, close_span};
+ghost use Rattle.format.specs.WordList.{list_count, word_of, raw_from, no_close, word_fields};
 ghost use Rattle.tree.specs.Raw.{raw_tree};
 ghost use Rattle.tree.specs.Types.{lit_kind_word, tree_span, span_list, tree_words_of};
 ghost use Rattle.tree.specs.declared.types.TokenTree.TheVariants as trees;
-ghost use Rattle.tree.specs.Words.{tree_from, words_answer, raw_words_answer, punct_from, ident_from, literal_from, subtree_from};
-ghost use Rattle.tree.specs.declared.words.WordsRead.TheVariants as reads;
+ghost use Rattle.tree.specs.Words.{tree_from, words_answer, raw_words_answer};
 
 use crate::fields::tree_fits;
-use crate::kinds::{
-    DelimiterRead, IsRawRead, LitKindRead, SpacingRead, delimiter_from, delimiter_word,
-    is_raw_from, is_raw_word, lit_kind_from, lit_kind_word, spacing_from, spacing_word,
-};
-use crate::raw::{Descendants, RawIdent, RawLiteral, RawPunct, RawSubtree, RawTree};
+use crate::kinds::lit_kind_word;
+use crate::listed::{ident_at, literal_at, punct_at, sort_at, subtree_at};
+use crate::ranged::{delimiter_of, is_raw_of, lit_kind_of, spacing_of};
+use crate::raw::{Descendants, RawTree};
+use crate::sort;
+use crate::sort::Sort;
 use crate::types::{Ident, Leaf, LitKind, Literal, Punct, Span, Subtree, TokenTree};
-use pack::span::PackedSpan;
-use width::{
-    CLOSE_AST, CLOSE_AT, CLOSE_CONTEXT, CLOSE_FILE, CLOSE_LEN, CLOSE_START, OPEN_AT, OPEN_LEN,
-    OPEN_START, PART_WORDS, SPAN_WORDS, TREE_WORDS,
+use pack::row;
+use pack::row::Row;
+use width::{CLOSE_AT, OPEN_AT, PART_WORDS, SPAN_WORDS, TREE_WORDS};
+
+// The closing span of a leaf.
+const NO_SPAN: Span = Span {
+    file: 0,
+    ast_id: 0,
+    context: 0,
+    start: 0,
+    len: 0,
 };
-
-#[derive(Clone, Copy)]
-pub enum WordsRead {
-    Got(TokenTree),
-    // The refusal's number.
-    Bad(u32),
-}
-
-#[derive(Clone, Copy)]
-pub enum RawWords {
-    Got(RawTree),
-    // The refusal's number.
-    Bad(u32),
-}
-
-// Word j of tree n.
-fn word(l: &[u32], n: usize, j: usize) -> u32
-    requires { j < tree_size }
-    ensures { result ≡ word_of l.now n j }
-{
-    if l.len() / TREE_WORDS < n {
-        return 0;
-    }
-    let i = TREE_WORDS * n + j;
-    if l.len() <= i {
-        return 0;
-    }
-    l[i]
-}
-
-fn leaf_span(l: &[u32], n: usize, index: u32) -> PackedSpan
-    ensures { result ≡ open_span l.now n index }
-{
-    let start = word(l, n, OPEN_START);
-    let len = word(l, n, OPEN_LEN);
-    PackedSpan {
-        index: index,
-        start: start,
-        len: len,
-    }
-}
-
-fn close_span(l: &[u32], n: usize, index: u32) -> PackedSpan
-    ensures { result ≡ close_span l.now n index }
-{
-    let start = word(l, n, CLOSE_START);
-    let len = word(l, n, CLOSE_LEN);
-    PackedSpan {
-        index: index,
-        start: start,
-        len: len,
-    }
-}
 
 // Tree n, if its first word says a sort, with the indices of its open and close part and of its symbol.
+#[tactic(auto, unfolding(crate::specs::Raw::raw_tree, format::specs::WordList::raw_from))]
 fn raw_of(l: &[u32], n: usize, open_index: u32, close_index: u32, symbol_index: u32) -> RawTree
-    requires { word_of l.now n 0 ≤ 3 }
+    requires { (n < list_count l.now) × (word_of l.now n 0 ≤ 3) }
     ensures { result ≡ raw_tree (raw_from open_index close_index symbol_index (word_of l.now n)) }
 {
-    let sort = word(l, n, 0);
-    let span = leaf_span(l, n, open_index);
-    let first = word(l, n, 1);
-    let second = word(l, n, 2);
-    if sort == 0 {
-        return RawTree::Punct(RawPunct {
-            span: span,
-            char: first,
-            spacing: second,
-        });
+    match sort_at(l, n) {
+        sort::PUNCT => RawTree::Punct(punct_at(l, n, open_index)),
+        sort::IDENT => RawTree::Ident(ident_at(l, n, open_index, symbol_index)),
+        sort::LITERAL => RawTree::Literal(literal_at(l, n, open_index, symbol_index)),
+        _ => RawTree::Subtree(subtree_at(l, n, open_index, close_index)),
     }
-    if sort == 1 {
-        return RawTree::Ident(RawIdent {
-            span: span,
-            symbol: symbol_index,
-            raw: second,
-        });
+}
+
+// The span whose file is word j.
+fn whole_span(l: &[u32], n: usize, j: usize) -> Span
+    requires { (n < list_count l.now) × (j + span_size ≤ tree_size) }
+    ensures { result ≡ tree_span (span_from (word_of l.now n) j) }
+{
+    let at = TREE_WORDS * n + j;
+    Span {
+        file: l[at],
+        ast_id: l[at + 1],
+        context: l[at + 2],
+        start: l[at + PART_WORDS],
+        len: l[at + PART_WORDS + 1],
     }
-    if sort == 2 {
-        return RawTree::Literal(RawLiteral {
-            span: span,
-            symbol: symbol_index,
-            kind: second % 256,
-            raw_count: second / 256 % 256,
-            suffix_len: second / 65536,
-        });
-    }
-    let closing = close_span(l, n, close_index);
-    RawTree::Subtree(RawSubtree {
-        opening: span,
-        closing: closing,
-        len: Descendants(first),
-        kind: second,
-    })
 }
 
 // Whether the closing span is zero, as it is in a leaf.
 fn no_close(l: &[u32], n: usize) -> bool
+    requires { n < list_count l.now }
     ensures { result ≡ no_close (word_of l.now n) }
 {
-    if word(l, n, CLOSE_FILE) != 0 {
-        return false;
-    }
-    if word(l, n, CLOSE_AST) != 0 {
-        return false;
-    }
-    if word(l, n, CLOSE_CONTEXT) != 0 {
-        return false;
-    }
-    if word(l, n, CLOSE_START) != 0 {
-        return false;
-    }
-    if word(l, n, CLOSE_LEN) != 0 {
-        return false;
-    }
-    true
+    whole_span(l, n, CLOSE_AT) == NO_SPAN
 }
 
 // Whether row 2 is silent at tree n.
+#[tactic(auto, using(crate::proofs::RawAgain::raw_again))]
 pub(crate) fn word_fields(l: &[u32], n: usize) -> bool
+    requires { n < list_count l.now }
     ensures { result ≡ word_fields (word_of l.now n) }
 {
-    let sort = word(l, n, 0);
-    if 3 < sort {
-        return false;
-    }
-    let tree = raw_of(l, n, 0, 0, 0);
-    if !tree_fits(tree) {
-        return false;
-    }
-    if sort == 3 {
-        return true;
-    }
-    no_close(l, n)
+    let sort = sort_at(l, n);
+    let is_subtree = sort == sort::SUBTREE;
+    sort <= sort::SUBTREE && tree_fits(raw_of(l, n, 0, 0, 0)) && (is_subtree || no_close(l, n))
 }
 
 // The tree of these words with the indices of its open and close part and of its symbol.
+#[tactic(auto, unfolding(crate::specs::Words::raw_words_answer))]
 pub fn raw_from_words(
     words: &[u32; TREE_WORDS],
     open_index: u32,
     close_index: u32,
     symbol_index: u32,
-) -> RawWords
+) -> Result<RawTree, Row>
     ensures { result ≡ raw_words_answer open_index close_index symbol_index (word_of words.now 0) }
 {
-    if !word_fields(words, 0) {
-        return RawWords::Bad(2);
+    if word_fields(words, 0) {
+        Ok(raw_of(words, 0, open_index, close_index, symbol_index))
+    } else {
+        Err(row::FIELD)
     }
-    RawWords::Got(raw_of(words, 0, open_index, close_index, symbol_index))
 }
 
 // ---- the source's tree, whose entries are the words themselves
 
-// The span whose file is word j.
-fn whole_span(l: &[u32], n: usize, j: usize) -> Span
-    requires { j + span_size ≤ tree_size }
-    ensures { result ≡ tree_span (span_from (word_of l.now n) j) }
+#[tactic(auto, unfolding(crate::specs::Words::tree_from))]
+fn whole_tree(l: &[u32], n: usize) -> TokenTree
+    requires { (n < list_count l.now) × (word_fields (word_of l.now n) ≡ true) }
+    ensures { result ≡ tree_from (word_of l.now n) }
 {
-    Span {
-        file: word(l, n, j),
-        ast_id: word(l, n, j + 1),
-        context: word(l, n, j + 2),
-        start: word(l, n, j + PART_WORDS),
-        len: word(l, n, j + PART_WORDS + 1),
-    }
-}
-
-fn whole_punct(char: u32, spacing: u32, span: Span) -> WordsRead
-    requires { spacing ≤ 2 }
-    ensures { result ≡ reads.Got (punct_from char spacing span) }
-{
-    match spacing_from(spacing) {
-        SpacingRead::Bad(number) => WordsRead::Bad(number),
-        SpacingRead::Got(spacing) => WordsRead::Got(TokenTree::Leaf(Leaf::Punct(Punct {
-            char: char,
-            spacing: spacing,
-            span: span,
-        }))),
-    }
-}
-
-fn whole_ident(sym: u32, raw: u32, span: Span) -> WordsRead
-    requires { raw ≤ 1 }
-    ensures { result ≡ reads.Got (ident_from sym raw span) }
-{
-    match is_raw_from(raw) {
-        IsRawRead::Bad(number) => WordsRead::Bad(number),
-        IsRawRead::Got(is_raw) => WordsRead::Got(TokenTree::Leaf(Leaf::Ident(Ident {
-            sym: sym,
-            span: span,
-            is_raw: is_raw,
-        }))),
-    }
-}
-
-fn whole_literal(sym: u32, second: u32, span: Span) -> WordsRead
-    requires { (second % 256 ≤ 10)
-        × ((if is_raw_kind (second % 256) then leb (second / 256 % 256) 255 else eqb (second / 256 % 256) 0) ≡ true) }
-    ensures { result ≡ reads.Got (literal_from sym second span) }
-{
-    match lit_kind_from(second % 256, second / 256 % 256) {
-        LitKindRead::Bad(number) => WordsRead::Bad(number),
-        LitKindRead::Got(kind) => WordsRead::Got(TokenTree::Leaf(Leaf::Literal(Literal {
-            text_and_suffix: sym,
-            span: span,
-            kind: kind,
-            suffix_len: second / 65536,
-        }))),
-    }
-}
-
-fn whole_subtree(len: u32, kind: u32, opening: Span, closing: Span) -> WordsRead
-    requires { kind ≤ 3 }
-    ensures { result ≡ reads.Got (subtree_from len kind opening closing) }
-{
-    match delimiter_from(kind) {
-        DelimiterRead::Bad(number) => WordsRead::Bad(number),
-        DelimiterRead::Got(kind) => WordsRead::Got(TokenTree::Subtree(Subtree {
-            opening: opening,
-            closing: closing,
-            len: Descendants(len),
-            kind: kind,
-        })),
-    }
-}
-
-fn whole_tree(l: &[u32], n: usize) -> WordsRead
-    requires { word_fields (word_of l.now n) ≡ true }
-    ensures { result ≡ reads.Got (tree_from (word_of l.now n)) }
-{
-    let sort = word(l, n, 0);
-    let first = word(l, n, 1);
-    let second = word(l, n, 2);
+    let first = l[TREE_WORDS * n + 1];
+    let second = l[TREE_WORDS * n + 2];
     let span = whole_span(l, n, OPEN_AT);
-    if sort == 0 {
-        return whole_punct(first, second, span);
+    match sort_at(l, n) {
+        sort::PUNCT => TokenTree::Leaf(Leaf::Punct(Punct {
+            char: first,
+            spacing: spacing_of(second),
+            span,
+        })),
+        sort::IDENT => TokenTree::Leaf(Leaf::Ident(Ident {
+            sym: first,
+            span,
+            is_raw: is_raw_of(second),
+        })),
+        sort::LITERAL => TokenTree::Leaf(Leaf::Literal(Literal {
+            text_and_suffix: first,
+            span,
+            kind: lit_kind_of(second % 256, second / 256 % 256),
+            suffix_len: second / 65536,
+        })),
+        _ => TokenTree::Subtree(Subtree {
+            opening: span,
+            closing: whole_span(l, n, CLOSE_AT),
+            len: Descendants(first),
+            kind: delimiter_of(second),
+        }),
     }
-    if sort == 1 {
-        return whole_ident(first, second, span);
-    }
-    if sort == 2 {
-        return whole_literal(first, second, span);
-    }
-    let closing = whole_span(l, n, CLOSE_AT);
-    whole_subtree(first, second, span, closing)
 }
 
-// The tree of these words, or 2 where row 2 refuses them.
-pub fn tree_from_words(words: &[u32; TREE_WORDS]) -> WordsRead
+// The tree of these words, if row 2 is silent on them.
+#[tactic(auto, unfolding(crate::specs::Words::words_answer))]
+pub fn tree_from_words(words: &[u32; TREE_WORDS]) -> Result<TokenTree, Row>
     ensures { result ≡ words_answer (word_of words.now 0) }
 {
-    if !word_fields(words, 0) {
-        return WordsRead::Bad(2);
+    if word_fields(words, 0) {
+        Ok(whole_tree(words, 0))
+    } else {
+        Err(row::FIELD)
     }
-    whole_tree(words, 0)
 }
 
 // ---- its words again
-
-fn low_word(x: u64) -> u32
-    ensures { result ≡ x % 4294967296 }
-{
-    (x % 4294967296) as u32
-}
 
 // A raw count or a suffix length out of range may pass the word: what is past it falls away.
 fn literal_word(kind: LitKind, suffix_len: u32) -> u32
     ensures { result ≡ (lit_kind_word kind + 65536 * suffix_len) % 4294967296 }
 {
-    let counted = lit_kind_word(kind);
-    low_word(counted + 65536 * (suffix_len as u64))
+    ((lit_kind_word(kind) + 65536 * (suffix_len as u64)) % 4294967296) as u32
 }
 
 // The list words of a span.
@@ -303,7 +159,7 @@ pub fn span_words(span: Span) -> [u32; SPAN_WORDS]
 }
 
 // The list words of a tree by its sort, its own two words and its spans.
-pub fn words_of(sort: u32, first: u32, second: u32, span: Span, closing: Span) -> [u32; TREE_WORDS]
+pub fn words_of(sort: Sort, first: u32, second: u32, span: Span, closing: Span) -> [u32; TREE_WORDS]
     ensures { result ≡ (sort ∷ first ∷ second ∷ span_list span ++ span_list closing) }
 {
     [
@@ -323,42 +179,29 @@ pub fn words_of(sort: u32, first: u32, second: u32, span: Span, closing: Span) -
     ]
 }
 
+#[tactic(auto, unfolding(crate::specs::Types::tree_words_of, crate::specs::Types::spacing_word, crate::specs::Types::is_raw_word))]
 fn leaf_words(leaf: Leaf) -> [u32; TREE_WORDS]
     ensures { result ≡ tree_words_of (trees.Leaf leaf) }
 {
-    let none = Span {
-        file: 0,
-        ast_id: 0,
-        context: 0,
-        start: 0,
-        len: 0,
-    };
     match leaf {
-        Leaf::Punct(p) => {
-            let spacing = p.spacing;
-            words_of(0, p.char, spacing_word(spacing), p.span, none)
-        }
-        Leaf::Ident(p) => {
-            let is_raw = p.is_raw;
-            words_of(1, p.sym, is_raw_word(is_raw), p.span, none)
-        }
+        Leaf::Punct(p) => words_of(sort::PUNCT, p.char, p.spacing as u32, p.span, NO_SPAN),
+        Leaf::Ident(p) => words_of(sort::IDENT, p.sym, p.is_raw as u32, p.span, NO_SPAN),
         Leaf::Literal(p) => {
-            let kind = p.kind;
-            let second = literal_word(kind, p.suffix_len);
-            words_of(2, p.text_and_suffix, second, p.span, none)
+            let second = literal_word(p.kind, p.suffix_len);
+            words_of(sort::LITERAL, p.text_and_suffix, second, p.span, NO_SPAN)
         }
     }
 }
 
 // The list words of a tree.
+#[tactic(auto, unfolding(crate::specs::Types::tree_words_of, crate::specs::Types::delimiter_word))]
 pub fn tree_words(tree: TokenTree) -> [u32; TREE_WORDS]
     ensures { result ≡ tree_words_of tree }
 {
     match tree {
         TokenTree::Leaf(leaf) => leaf_words(leaf),
         TokenTree::Subtree(p) => {
-            let kind = p.kind;
-            words_of(3, p.len.0, delimiter_word(kind), p.opening, p.closing)
+            words_of(sort::SUBTREE, p.len.0, p.kind as u32, p.opening, p.closing)
         }
     }
 }

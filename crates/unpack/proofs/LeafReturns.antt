@@ -7,6 +7,7 @@ use native.Mathlib.Omega.{arith}
 use borrow.Author.Tests.{le-leb, lt-leb, lt-ltb, le-ltb, leb-true}
 use lib.Dec.{leb, ltb}
 use lib.ListN.{length}
+use Rattle.std.specs.Prelude.{Result, Ok, Err}
 use Rattle.format.specs.Verdict.{passed}
 use Rattle.format.specs.Reader.{Reader, Reply, got, bad}
 use Rattle.format.specs.Tree.{Raw, tree_at, is_subtree, count_of}
@@ -22,18 +23,15 @@ use Rattle.format.proofs.Own.{own_sound}
 use Rattle.format.proofs.Each.{and_right}
 use Rattle.format.proofs.Sight.{Alike, sub_same, check_same}
 use Rattle.format.proofs.RawReader.{mode_telling, raw_alike}
-use Rattle.tree.specs.Raw.{raw_of, raw_answer}
+use Rattle.tree.specs.Raw.{RawAt, raw_of, raw_answer}
 use Rattle.tree.specs.Mode.{limits_of}
 use Rattle.tree.specs.declared.limits.Limits.{Limits}
 use Rattle.tree.specs.declared.raw.RawPunct.{RawPunct}
 use Rattle.tree.specs.declared.raw.RawIdent.{RawIdent}
 use Rattle.tree.specs.declared.raw.RawLiteral.{RawLiteral}
 use Rattle.tree.specs.declared.raw.RawSubtree.{RawSubtree}
-use Rattle.tree.specs.declared.raw.RawAt.{RawAt}
 use Rattle.tree.specs.declared.raw.RawTree.{RawTree}
 use Rattle.tree.specs.declared.raw.RawTree.TheVariants.{Punct, Ident, Literal, Subtree}
-use Rattle.tree.specs.declared.raw.RawRead.{RawRead}
-use Rattle.tree.specs.declared.raw.RawRead.TheVariants.{Got, Bad}
 use Rattle.decode.specs.Judge.{limit_rules}
 use Rattle.decode.proofs.ReadUse.{reply_got, reply_bad}
 use Rattle.decode.proofs.JudgeUse.{judged_inside}
@@ -97,11 +95,11 @@ pub ruleset flat_cases = (flat_punct, flat_ident, flat_literal, flat_subtree)
 
 -- ---- onward, is_flat_at
 
-module _ (b : List ℕ) (N : Limits) (m at : ℕ) (r : RawRead) (e : r ≡ raw_answer (judge (λ n t. t) (limit_rules (limits_of N)) m at (tree_at b at))) where
+module _ (b : List ℕ) (N : Limits) (m at : ℕ) (r : Result RawAt ℕ) (e : r ≡ raw_answer (judge (λ n t. t) (limit_rules (limits_of N)) m at (tree_at b at))) where
   abbrev here : Reply Raw
   here = judge (λ n t. t) (limit_rules (limits_of N)) m at (tree_at b at)
 
-  module _ (k : ℕ) (q : r ≡ Bad k) where
+  module _ (k : ℕ) (q : r ≡ Err k) where
     pub onward_bad : (n : ℕ) (x : Reached) → x ≡ into m 0 → x ≡ toward m n (raw_at b N m at)
     unfolding toward raw_at
     onward_bad n x f = let d = reply_bad here r e k q in f ∙ rw d
@@ -110,7 +108,7 @@ module _ (b : List ℕ) (N : Limits) (m at : ℕ) (r : RawRead) (e : r ≡ raw_a
     unfolding is_flat raw_at
     flat_bad = let d = reply_bad here r e k q in rw d
 
-  module _ (y : RawAt) (q : r ≡ Got y) where
+  module _ (y : RawAt) (q : r ≡ Ok y) where
     pub onward_got : (n kids : ℕ) → kids ≡ y.children.0 → (x : Reached) → x ≡ toward m n (got (raw_of y.tree) y.next kids) → x ≡ toward m n (raw_at b N m at)
     unfolding raw_at
     onward_got n kids c x f =

@@ -8,6 +8,7 @@ use native.Mathlib.Nat.{zero-add}
 use native.Mathlib.Numerals.{add-one}
 use lib.Dec.{leb}
 use lib.ListN.{length, length-append}
+use Rattle.std.specs.Prelude.{Result, Ok, Err}
 use Rattle.format.specs.Verdict.{passed}
 use Rattle.format.specs.Word.{put}
 use Rattle.format.specs.Width.{part_size, tree_size}
@@ -24,13 +25,10 @@ use Rattle.format.proofs.Each.{and_right}
 use Rattle.format.proofs.Own.{own_sound}
 use Rattle.format.proofs.ListOf.{words_length, mode_whole}
 use Rattle.pack.proofs.Store.{put_put, put_none}
-use Rattle.tree.specs.Raw.{raw_of, raw_answer}
-use Rattle.tree.specs.Mode.{limits_of, mode_of, Whole}
-use Rattle.tree.specs.declared.limits.Limits.{Limits}
-use Rattle.tree.proofs.OwnMode.{pair_of, own_whole, own_mode_lem}
-use Rattle.tree.specs.declared.raw.RawAt.{RawAt}
-use Rattle.tree.specs.declared.raw.RawRead.{RawRead}
-use Rattle.tree.specs.declared.raw.RawRead.TheVariants.{Got, Bad}
+use Rattle.tree.specs.Raw.{RawAt, raw_of, raw_answer}
+use Rattle.tree.specs.Mode.{limits_of}
+use Rattle.tree.specs.Tables.{mode_in}
+use Rattle.tree.specs.declared.tables.Tables.{Tables}
 use Rattle.tree.proofs.TypesWords.{resolved_words}
 use Rattle.decode.specs.Judge.{limit_rules}
 use Rattle.decode.specs.Decode.{read_in}
@@ -40,42 +38,42 @@ use Rattle.unpack.specs.List.{reader_in, read_at, words_read, list_in}
 
 -- ---- put_tree
 
-module _ (b : List ℕ) (N : Limits) (parts pair symbols : List ℕ) (w : Whole N parts pair symbols) (n at : ℕ) (r : RawRead)
-    (e : r ≡ raw_answer (judge (λ n t. t) (limit_rules (limits_of N)) n at (tree_at b at))) where
+module _ (b : List ℕ) (t : Tables) (n at : ℕ) (r : Result RawAt ℕ)
+    (e : r ≡ raw_answer (judge (λ n t. t) (limit_rules (limits_of t.limits)) n at (tree_at b at))) where
   abbrev M : Mode
-  M = mode_of N parts pair symbols
+  M = mode_in t
 
   worded_here : worded (read_in b M n at) ≡ read_at b M n at
   unfolding read_at
   worded_here = decoded_words M n at b 0
 
-  module _ (j : ℕ) (q : r ≡ Bad j) where
+  module _ (j : ℕ) (q : r ≡ Err j) where
     here_bad : read_at b M n at ≡ bad j
-    here_bad = sym worded_here ∙ ap worded (sized_refused b N parts pair symbols w n at r e j q)
+    here_bad = sym worded_here ∙ ap worded (sized_refused b t.limits t.parts.now t.pair.now t.symbols.now t.whole n at r e j q)
 
-    pub bad_next : 0 ≡ next_of (read_at b (mode_of N parts pair symbols) n at)
+    pub bad_next : 0 ≡ next_of (read_at b (mode_in t) n at)
     bad_next = sym (ap next_of here_bad)
 
-    pub bad_words : (l : List ℕ) (at' : ℕ) → l ≡ put l at' (words_read (read_at b (mode_of N parts pair symbols) n at))
+    pub bad_words : (l : List ℕ) (at' : ℕ) → l ≡ put l at' (words_read (read_at b (mode_in t) n at))
     bad_words l at' = sym (ap (λ z. put l at' (words_read z)) here_bad ∙ put_none l at')
 
-  module _ (y : RawAt) (q : r ≡ Got y) where
+  module _ (y : RawAt) (q : r ≡ Ok y) where
     pub here_fits : fields (raw_of y.tree) ≡ true
-    here_fits = (judged_passed b (limit_rules (limits_of N)) n at r e y q).fits
+    here_fits = (judged_passed b (limit_rules (limits_of t.limits)) n at r e y q).fits
 
-    pub here_row : row_eight (limits_of N) n (raw_of y.tree) ≡ 0
-    here_row = (judged_passed b (limit_rules (limits_of N)) n at r e y q).row
+    pub here_row : row_eight (limits_of t.limits) n (raw_of y.tree) ≡ 0
+    here_row = (judged_passed b (limit_rules (limits_of t.limits)) n at r e y q).row
 
     here_got : read_at b M n at ≡ got (tree_words M n (raw_of y.tree)) y.next y.children.0
     here_got =
-        sym worded_here ∙ ap worded (sized_got b N parts pair symbols w n at r e y q)
+        sym worded_here ∙ ap worded (sized_got b t.limits t.parts.now t.pair.now t.symbols.now t.whole n at r e y q)
         ∙ ap (λ (z : List ℕ). got z y.next y.children.0) (resolved_words M n (raw_of y.tree) here_fits)
 
-    pub got_next : y.next ≡ next_of (read_at b (mode_of N parts pair symbols) n at)
+    pub got_next : y.next ≡ next_of (read_at b (mode_in t) n at)
     got_next = sym (ap next_of here_got)
 
-    pub got_words : (l l' ws : List ℕ) (p : ℕ) → p ≡ n → ws ≡ tree_words (mode_of N parts pair symbols) n (raw_of y.tree) → l' ≡ put l (tree_size * p) ws
-        → l' ≡ put l (tree_size * n) (words_read (read_at b (mode_of N parts pair symbols) n at))
+    pub got_words : (l l' ws : List ℕ) (p : ℕ) → p ≡ n → ws ≡ tree_words (mode_in t) n (raw_of y.tree) → l' ≡ put l (tree_size * p) ws
+        → l' ≡ put l (tree_size * n) (words_read (read_at b (mode_in t) n at))
     got_words l l' ws p f g h = h ∙ ap (λ (i : ℕ). put l (tree_size * i) ws) f ∙ ap (put l (tree_size * n)) (g ∙ sym (ap words_read here_got))
 
 pub ruleset tree_cases = (bad_next, bad_words, here_fits, here_row, got_next, got_words)
@@ -150,23 +148,18 @@ pub ruleset unpacked_cases = (unpacked_none, unpacked_all, unpacked_room, unpack
 
 -- ---- unpack
 
-module _ (b : List ℕ) (k : ℕ) (parts symbols : List ℕ) (ok : buffer_check b k parts symbols ≡ passed) (N : Limits) (d : limits_of N ≡ own_limits (length parts / part_size) (length symbols)) where
-  sized : (own_mode parts symbols).sized ≡ true
+module _ (b : List ℕ) (k : ℕ) (parts symbols : List ℕ) (ok : buffer_check b k parts symbols ≡ passed) where
+  pub own_sized : (own_mode parts symbols).sized ≡ true
   unfolding own_reader
-  sized = and_right (leb 1 k && leb k 1048576) (own_mode parts symbols).sized (own_sound b k parts symbols ok).sized
+  own_sized = and_right (leb 1 k && leb k 1048576) (own_mode parts symbols).sized (own_sound b k parts symbols ok).sized
 
-  pub own_runs : Whole N parts (pair_of N parts) symbols
-  own_runs = own_whole parts symbols sized N d
+  module _ (t : Tables) (d : mode_in t ≡ own_mode parts symbols) where
+    pub own_checked : check word_shape (reader_in b k (mode_in t)) ≡ passed
+    unfolding own_reader reader_in
+    own_checked = ap (λ (M : Mode). check word_shape (reader_in b k M)) d ∙ ok
 
-  same_mode : mode_of N parts (pair_of N parts) symbols ≡ own_mode parts symbols
-  same_mode = own_mode_lem parts symbols sized N d
+    pub own_list : (l l' : List ℕ) → l' ≡ put l 0 (list_in b k (mode_in t)) → l' ≡ put l 0 (list_of b k parts symbols)
+    unfolding own_reader reader_in list_in list_of
+    own_list l l' e = e ∙ ap (λ (M : Mode). put l 0 (list_in b k M)) d
 
-  pub own_checked : check word_shape (reader_in b k (mode_of N parts (pair_of N parts) symbols)) ≡ passed
-  unfolding own_reader reader_in
-  own_checked = ap (λ (M : Mode). check word_shape (reader_in b k M)) same_mode ∙ ok
-
-  pub own_list : (l l' : List ℕ) → l' ≡ put l 0 (list_in b k (mode_of N parts (pair_of N parts) symbols)) → l' ≡ put l 0 (list_of b k parts symbols)
-  unfolding own_reader reader_in list_in list_of
-  own_list l l' e = e ∙ ap (λ (M : Mode). put l 0 (list_in b k M)) same_mode
-
-pub ruleset unpack_cases = (own_runs, own_checked, own_list)
+pub ruleset unpack_cases = (own_sized, own_checked, own_list)

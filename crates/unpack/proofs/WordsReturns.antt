@@ -19,7 +19,9 @@ use Rattle.pack.specs.Answer.{span_of}
 use Rattle.pack.specs.declared.span.PackedSpan.{PackedSpan}
 use Rattle.tree.specs.Raw.{raw_of, literal_raw}
 use Rattle.tree.specs.Types.{span_with, span_list, zeros}
-use Rattle.tree.specs.Mode.{limits_of, mode_of, Whole}
+use Rattle.tree.specs.Mode.{limits_of, Whole}
+use Rattle.tree.specs.Tables.{mode_in}
+use Rattle.tree.specs.declared.tables.Tables.{Tables}
 use Rattle.tree.specs.declared.limits.Limits.{Limits}
 use Rattle.tree.specs.declared.raw.RawPunct.{RawPunct}
 use Rattle.tree.specs.declared.raw.RawIdent.{RawIdent}
@@ -80,10 +82,25 @@ pub ruleset literal_cases = (raw_below, kind_below, suffix_below, all_below_lem)
 
 -- ---- a tree whose indices row 8 has passed
 
-module _ (N : Limits) (parts pair symbols : List ℕ) (w : Whole N parts pair symbols) (n : ℕ) (t : RawTree)
-    (f : fields (raw_of t) ≡ true) (row : row_eight (limits_of N) n (raw_of t) ≡ 0) where
+module _ (T : Tables) (n : ℕ) (t : RawTree)
+    (f : fields (raw_of t) ≡ true) (row : row_eight (limits_of T.limits) n (raw_of t) ≡ 0) where
   abbrev M : Mode
-  M = mode_of N parts pair symbols
+  M = mode_in T
+
+  abbrev N : Limits
+  N = T.limits
+
+  abbrev parts : List ℕ
+  parts = T.parts.now
+
+  abbrev pair : List ℕ
+  pair = T.pair.now
+
+  abbrev symbols : List ℕ
+  symbols = T.symbols.now
+
+  abbrev w : Whole N parts pair symbols
+  w = T.whole
 
   placed : (if eqb n 0 then indexed_root (limits_of N) (raw_of t) else indexed_below (limits_of N) (raw_of t)) ≡ true
   placed = eight (if eqb n 0 then indexed_root (limits_of N) (raw_of t) else indexed_below (limits_of N) (raw_of t)) row

@@ -12,7 +12,7 @@ ghost use Rattle.unpack.specs.Leaf.{raw_in, raw_at, into, past, toward, is_flat}
 
 use decode::judge::tree_in;
 use tree::limits::{Limits, own_limits};
-use tree::raw::{Descendants, RawRead, RawTree, place};
+use tree::raw::{Descendants, RawTree, place};
 use width::PART_WORDS;
 
 // The tree that a search has come to, and its place.
@@ -34,6 +34,7 @@ fn into(m: u32, next: usize) -> Reached
 }
 
 // Past subtree m and all that it holds, unless that passes tree `number`; else into it.
+#[tactic(auto, using(crate::proofs::LeafReturns::past_cases))]
 fn past(m: u32, number: u32, next: usize, children: usize, count: Descendants) -> Reached
     requires m_lt_number { m < number }
     requires children_bound { next + children < 18446744073709551616 }
@@ -49,6 +50,7 @@ fn past(m: u32, number: u32, next: usize, children: usize, count: Descendants) -
 }
 
 // From tree m towards tree `number` behind it.
+#[tactic(auto, using(crate::proofs::LeafReturns::toward_cases))]
 fn toward(m: u32, number: u32, next: usize, children: usize, tree: RawTree) -> Reached
     requires m_lt_number { m < number }
     requires children_bound { next + children < 18446744073709551616 }
@@ -63,21 +65,19 @@ fn toward(m: u32, number: u32, next: usize, children: usize, tree: RawTree) -> R
 }
 
 // The same by its place.
+#[tactic(auto, using(crate::proofs::LeafReturns::onward_cases))]
 fn onward(b: &[u8], limits: Limits, m: u32, at: usize, number: u32) -> Reached
     requires { m < number }
     ensures { result ≡ toward m number (raw_at b.now limits m at) }
 {
-    let read = tree_in(b, limits, m, at);
-    let RawRead::Got(here) = read else {
+    let Ok(here) = tree_in(b, limits, m, at) else {
         // Not in a buffer that the check has passed.
         return into(m, 0);
     };
-    let children = here.children;
-    let bytes = place(children.0);
-    let tree = here.tree;
-    toward(m, number, here.next, bytes, tree)
+    toward(m, number, here.next, place(here.children.0), here.tree)
 }
 
+#[tactic(auto, using(crate::proofs::LeafReturns::flat_cases))]
 fn is_flat(tree: RawTree) -> bool
     ensures { result ≡ not (is_subtree (raw_of tree)) }
 {
@@ -90,19 +90,19 @@ fn is_flat(tree: RawTree) -> bool
 }
 
 // Whether what is read at a place is no subtree.
+#[tactic(auto, using(crate::proofs::LeafReturns::onward_cases))]
 fn is_flat_at(b: &[u8], limits: Limits, n: u32, at: usize) -> bool
     ensures { result ≡ is_flat (raw_at b.now limits n at) }
 {
-    let read = tree_in(b, limits, n, at);
-    let RawRead::Got(here) = read else {
+    let Ok(here) = tree_in(b, limits, n, at) else {
         // Not in a buffer that the check has passed.
         return true;
     };
-    let tree = here.tree;
-    is_flat(tree)
+    is_flat(here.tree)
 }
 
 // By how far indices reach.
+#[tactic(auto, using(crate::proofs::LeafReturns::leaf_cases))]
 fn is_leaf_in(b: &[u8], trees: u32, limits: Limits, number: u32) -> bool
     requires { check raw_shape (raw_in b.now trees limits) ≡ passed }
     ensures { result ≡ (ltb number trees
@@ -121,6 +121,7 @@ fn is_leaf_in(b: &[u8], trees: u32, limits: Limits, number: u32) -> bool
     is_flat_at(b, limits, number, at)
 }
 
+#[tactic(auto, using(crate::proofs::LeafReturns::is_leaf_cases))]
 pub fn is_leaf(b: &[u8], trees: u32, parts: &[u32], symbols: &[u32], number: u32) -> bool
     requires { buffer_check b.now trees parts.now symbols.now ≡ passed }
     ensures { result ≡ is_leaf b.now trees parts.now symbols.now number }

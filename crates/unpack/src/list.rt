@@ -6,77 +6,54 @@ ghost use Rattle.format.specs.Width.{tree_size};
 ghost use Rattle.format.specs.Check.{check, next_of};
 ghost use Rattle.format.specs.Buffer.{word_shape, buffer_check};
 ghost use Rattle.format.specs.Unpack.{list_of};
-ghost use Rattle.tree.specs.Mode.{mode_of, Whole};
+ghost use Rattle.tree.specs.Tables.{mode_in};
 ghost use Rattle.unpack.specs.List.{reader_in, read_at, words_read, list_in};
 
 use crate::words::raw_words;
 use decode::judge::tree_in;
-use tree::limits::{Limits, own_limits};
-use tree::raw::{RawRead, place};
+use tree::own::own_tables;
+use tree::raw::place;
+use tree::tables::Tables;
 use tree::unchecked::put_words;
-use width::{PART_WORDS, TREE_WORDS};
+use width::TREE_WORDS;
 
 // The words of tree n, which is read at a place. Answers the place behind it.
-fn put_tree(
-    b: &[u8],
-    limits: Limits,
-    parts: &[u32],
-    pair: &[u32],
-    symbols: &[u32],
-    n: u32,
-    at: usize,
-    list: &mut [u32],
-) -> usize
-    requires whole { Whole limits parts.now pair.now symbols.now }
-    requires tree_size_in_bounds { tree_size * n + tree_size ≤ length list.old }
-    ensures next { result ≡ next_of (read_at b.now
-        (mode_of limits parts.now pair.now symbols.now) n at) }
-    ensures words { list.new ≡ put list.old (tree_size * n) (words_read (read_at b.now
-        (mode_of limits parts.now pair.now symbols.now) n at)) }
+#[tactic(auto, using(crate::proofs::ListReturns::tree_cases))]
+fn put_tree(b: &[u8], tables: &Tables, n: u32, at: usize, list: &mut [u32]) -> usize
+    requires { tree_size * n + tree_size ≤ length list.old }
+    ensures next { result ≡ next_of (read_at b.now (mode_in tables.now) n at) }
+    ensures words { list.new ≡ put list.old (tree_size * n)
+        (words_read (read_at b.now (mode_in tables.now) n at)) }
 {
-    let read = tree_in(b, limits, n, at);
-    let RawRead::Got(here) = read else {
+    let Ok(here) = tree_in(b, tables.limits, n, at) else {
         // Not in a buffer that the check has passed.
         return 0;
     };
-    let tree = here.tree;
-    let words = raw_words(limits, parts, pair, symbols, n, tree);
+    let words = raw_words(tables, n, here.tree);
     put_words(list, TREE_WORDS * place(n), &words);
     here.next
 }
 
 // Over the tables of a mode.
-fn unpack_in(
-    b: &[u8],
-    trees: u32,
-    limits: Limits,
-    parts: &[u32],
-    pair: &[u32],
-    symbols: &[u32],
-    list: &mut [u32],
-)
-    requires whole { Whole limits parts.now pair.now symbols.now }
-    requires symbols_value { check word_shape (reader_in b.now trees (mode_of limits parts.now pair.now
-        symbols.now)) ≡ passed }
-    requires trees_in_bounds { tree_size * trees ≤ length list.old }
-    ensures { list.new ≡ put list.old 0 (list_in b.now trees
-        (mode_of limits parts.now pair.now symbols.now)) }
+#[tactic(auto, using(crate::proofs::ListReturns::unpacked_cases))]
+fn unpack_in(b: &[u8], trees: u32, tables: &Tables, list: &mut [u32])
+    requires passed { check word_shape (reader_in b.now trees (mode_in tables.now)) ≡ passed }
+    requires room { tree_size * trees ≤ length list.old }
+    ensures { list.new ≡ put list.old 0 (list_in b.now trees (mode_in tables.now)) }
 {
     let mut at: usize = 0;
-    let mut n: u32 = 0;
-    while n < trees {
-        at = put_tree(b, limits, parts, pair, symbols, n, at, list);
-        n = n + 1;
+    for n in 0..trees {
+        at = put_tree(b, tables, n, at, list);
     }
 }
 
+#[tactic(auto, using(crate::proofs::ListReturns::unpack_cases))]
 pub fn unpack(b: &[u8], trees: u32, parts: &[u32], symbols: &[u32], list: &mut [u32])
-    requires symbols_value { buffer_check b.now trees parts.now symbols.now ≡ passed }
-    requires trees_in_bounds { tree_size * trees ≤ length list.old }
+    requires passed { buffer_check b.now trees parts.now symbols.now ≡ passed }
+    requires room { tree_size * trees ≤ length list.old }
     ensures { list.new ≡ put list.old 0
         (list_of b.now trees parts.now symbols.now) }
 {
-    let limits = own_limits(parts.len() / PART_WORDS, symbols.len());
-    let pair = &parts[PART_WORDS * limits.limit..];
-    unpack_in(b, trees, limits, parts, pair, symbols, list);
+    let tables = own_tables(parts, symbols);
+    unpack_in(b, trees, &tables, list);
 }

@@ -7,18 +7,20 @@ ghost use Rattle.format.specs.Fields.{fields};
 ghost use Rattle.format.specs.Tables.{row_eight, tree_words};
 ghost use Rattle.pack.specs.Answer.{span_of};
 ghost use Rattle.tree.specs.Raw.{raw_of, literal_raw};
-ghost use Rattle.tree.specs.Mode.{limits_of, mode_of, Whole};
+ghost use Rattle.tree.specs.Mode.{limits_of};
+ghost use Rattle.tree.specs.Tables.{mode_in};
 ghost use Rattle.unpack.specs.Words.{leaf_list, subtree_list};
 
 use decode::decode::{span_from, symbol_from};
 use pack::span::PackedSpan;
-use tree::limits::Limits;
 use tree::raw::{RawLiteral, RawSubtree, RawTree, place};
+use tree::tables::Tables;
 use tree::types::Span;
 use tree::words::words_of;
 use width::TREE_WORDS;
 
 // A leaf by its sort and its own two words.
+#[tactic(auto, using(crate::proofs::WordsReturns::one_cases))]
 fn leaf_words(
     parts: &[u32],
     sort: u32,
@@ -41,6 +43,7 @@ fn leaf_words(
 }
 
 // Kind, raw count and suffix length in one word.
+#[tactic(auto, using(crate::proofs::WordsReturns::literal_cases))]
 fn literal_word(p: RawLiteral) -> u32
     requires { fields (literal_raw p) ≡ true }
     ensures { result ≡ p.kind + 256 * p.raw_count + 65536 * p.suffix_len }
@@ -49,63 +52,45 @@ fn literal_word(p: RawLiteral) -> u32
 }
 
 // A subtree with two entries of a table.
+#[tactic(auto, using(crate::proofs::WordsReturns::one_cases))]
 fn subtree_words(table: &[u32], opens: usize, closes: usize, p: RawSubtree) -> [u32; TREE_WORDS]
     requires { (part_size * opens + part_size ≤ length table.now)
         × (part_size * closes + part_size ≤ length table.now) }
     ensures { result ≡ subtree_list (part_at table.now opens) (part_at table.now closes) p }
 {
-    let opening = p.opening;
-    let closing = p.closing;
     words_of(
         3,
         p.len.0,
         p.kind,
-        span_from(table, opens, opening),
-        span_from(table, closes, closing),
+        span_from(table, opens, p.opening),
+        span_from(table, closes, p.closing),
     )
 }
 
 // Tree n over the tables of a mode. Row 2 has passed its fields, row 8 its indices.
-pub(crate) fn raw_words(
-    limits: Limits,
-    parts: &[u32],
-    pair: &[u32],
-    symbols: &[u32],
-    n: u32,
-    tree: RawTree,
-) -> [u32; TREE_WORDS]
-    requires whole { Whole limits parts.now pair.now symbols.now }
-    requires tree_value { (fields (raw_of tree) ≡ true) × (row_eight (limits_of limits) n (raw_of tree) ≡ 0) }
-    ensures { result ≡ tree_words (mode_of limits parts.now pair.now symbols.now) n
-        (raw_of tree) }
+#[tactic(auto, using(crate::proofs::WordsReturns::raw_cases))]
+pub(crate) fn raw_words(tables: &Tables, n: u32, tree: RawTree) -> [u32; TREE_WORDS]
+    requires { (fields (raw_of tree) ≡ true) × (row_eight (limits_of tables.now.limits) n (raw_of tree) ≡ 0) }
+    ensures { result ≡ tree_words (mode_in tables.now) n (raw_of tree) }
 {
     match tree {
-        RawTree::Punct(p) => {
-            let span = p.span;
-            leaf_words(parts, 0, p.char, p.spacing, span)
-        }
+        RawTree::Punct(p) => leaf_words(tables.parts, 0, p.char, p.spacing, p.span),
         RawTree::Ident(p) => {
-            let span = p.span;
-            leaf_words(parts, 1, symbol_from(symbols, p.symbol), p.raw, span)
+            let symbol = symbol_from(tables.symbols, p.symbol);
+            leaf_words(tables.parts, 1, symbol, p.raw, p.span)
         }
         RawTree::Literal(p) => {
-            let span = p.span;
-            leaf_words(
-                parts,
-                2,
-                symbol_from(symbols, p.symbol),
-                literal_word(p),
-                span,
-            )
+            let symbol = symbol_from(tables.symbols, p.symbol);
+            leaf_words(tables.parts, 2, symbol, literal_word(p), p.span)
         }
         RawTree::Subtree(p) => {
             // The root's two parts stand in a run of their own.
             if n == 0 {
-                return subtree_words(pair, 0, 1, p);
+                return subtree_words(tables.pair, 0, 1, p);
             }
             let opens = place(p.opening.index);
             let closes = place(p.closing.index);
-            subtree_words(parts, opens, closes, p)
+            subtree_words(tables.parts, opens, closes, p)
         }
     }
 }

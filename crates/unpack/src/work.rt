@@ -16,14 +16,7 @@ pub fn work_fits(trees: u32, list: usize, tables: usize, counts: usize) -> bool
     ensures { result ≡ work_fits trees list tables counts }
 {
     let k = place(trees);
-    if list < LIST_WORK * k + LIST_WORK {
-        return false;
-    }
-    if tables < TABLE_WORK * k + TABLE_WORK {
-        return false;
-    }
-    if counts < COUNT_WORK * k + COUNT_WORK {
-        return false;
-    }
-    true
+    LIST_WORK * k + LIST_WORK <= list
+        && TABLE_WORK * k + TABLE_WORK <= tables
+        && COUNT_WORK * k + COUNT_WORK <= counts
 }

@@ -6,7 +6,7 @@ use mathlib.Core.List.{List}
 use native.Mathlib.Omega.{arith}
 use borrow.Author.Tests.{lt-ltb, not-true}
 use lib.Dec.{ltb}
-use Rattle.std.specs.Prelude.{if◌then◌else◌}
+use Rattle.std.specs.Prelude.{if◌then◌else◌, Option, Some, None, Result, Ok, Err}
 use lib.ListN.{length}
 use Rattle.format.specs.Reader.{Shape, Reader, Answer, none, one, refused, mapped}
 use Rattle.format.specs.Loose.{Loose, reported_shape}
@@ -31,39 +31,19 @@ use Rattle.tree.specs.declared.types.Leaf.{Leaf}
 use Rattle.tree.specs.declared.types.Leaf.TheVariants as leaves
 use Rattle.tree.specs.declared.types.TokenTree.{TokenTree}
 use Rattle.tree.specs.declared.types.TokenTree.TheVariants as trees
-use Rattle.tree.specs.Mode.{limits_of, mode_of}
-use Rattle.tree.specs.declared.limits.Limits.{Limits}
-use Rattle.tree.proofs.OwnMode.{pair_of}
+use Rattle.tree.specs.Tables.{mode_in}
 use Rattle.walk.specs.Source.{sizes, tree_shape, report_shape, report_reader_in, shown_report, answer_report}
 use Rattle.walk.specs.Walk.{walk_of, answer_of, step_of, step_report}
 use Rattle.walk.specs.Last.{last_of, last_words, LastFound, word_reader, last_in, AtLast, Goes}
 use Rattle.walk.specs.declared.walk.Walk.{Walk}
-use Rattle.walk.specs.declared.walk.Answer.TheVariants as answers
 use Rattle.walk.specs.declared.walk.Step.{Step}
-use Rattle.walk.specs.declared.last_span.LastSpan.{LastSpan}
-use Rattle.walk.specs.declared.last_span.LastSpan.TheVariants as spans
+use Rattle.walk.specs.declared.last_span.ReportedSpan.{ReportedSpan}
 use Rattle.walk.specs.declared.last_span.Last.{Last}
 use Rattle.walk.specs.declared.last_span.Last.TheVariants.{Found, Of}
-use Rattle.walk.proofs.SizesReturns.{sizes_trees, sizes_whole, sizes_mode}
+use Rattle.walk.specs.RowOne.{Silent, Speaks}
+use Rattle.walk.specs.declared.buffer.Buffer.{Buffer}
 use Rattle.walk.proofs.WalkWords.{in_report, walk_report}
 use Rattle.walk.proofs.WalkReturns.{leaf_flat, subtree_holds}
-
--- ---- a leaf's span
-
-module _ (l : Leaf) where
-  pub punct_span : (p : Punct) → l ≡ leaves.Punct p → span_list p.span ≡ end_span (tree_words_of (trees.Leaf l))
-  unfolding tree_words_of
-  punct_span p e = rw e
-
-  pub ident_span : (p : Ident) → l ≡ leaves.Ident p → span_list p.span ≡ end_span (tree_words_of (trees.Leaf l))
-  unfolding tree_words_of
-  ident_span p e = rw e
-
-  pub literal_span : (p : Literal) → l ≡ leaves.Literal p → span_list p.span ≡ end_span (tree_words_of (trees.Leaf l))
-  unfolding tree_words_of
-  literal_span p e = rw e
-
-pub ruleset leaf_cases = (punct_span, ident_span, literal_span)
 
 -- ---- one step of it
 
@@ -91,7 +71,7 @@ module _ (b : List ℕ) (M : Mode) (k : ℕ) (w : Walk) where
     over = ap (ltb 0) p.last
 
     pub into_leaf : (l : Leaf) (s : Span) (o : Bool) → o ≡ (loose_of t.loose).opening → t.tree ≡ trees.Leaf l → span_list s ≡ end_span (tree_words_of (trees.Leaf l))
-        → Goes b k M w (Found (spans.Span (record { span = s; loose = o })))
+        → Goes b k M w (Ok (Found (Some (record { span = s; loose = o }))))
     unfolding Goes last_of last_in
     into_leaf l s o g e f =
         let d : word_shape.is_sub (tree_words_of t.tree) ≡ false = ap tree_shape.is_sub e ∙ leaf_flat l in
@@ -112,7 +92,7 @@ module _ (b : List ℕ) (M : Mode) (k : ℕ) (w : Walk) where
       unfolding tree_words_of
       closes = rw e
 
-      pub into_empty : (o : Bool) → o ≡ (loose_of t.loose).closing → q.len.0 ≡ 0 → Goes b k M w (Found (spans.Span (record { span = q.closing; loose = o })))
+      pub into_empty : (o : Bool) → o ≡ (loose_of t.loose).closing → q.len.0 ≡ 0 → Goes b k M w (Ok (Found (Some (record { span = q.closing; loose = o }))))
       unfolding Goes last_of last_in
       into_empty o g h =
           let n : ltb 0 (word_shape.count (tree_words_of t.tree)) ≡ false = ap (ltb 0) (counts ∙ h) in
@@ -122,7 +102,7 @@ module _ (b : List ℕ) (M : Mode) (k : ℕ) (w : Walk) where
           ∙ (λ i. one (sym closes i, sym g i)) in
           sym z ∙ sym (ap span_reported (after (one (shown_report (reported_of t))) p.answer ∙ c))
 
-      pub into_on : (q.len.0 ≡ 0 → ⊥) → (s : Step) → step_of s ≡ walk_step report_shape (report_reader_in b k M) advance (walk_of w) → Goes b k M w (Of s.walk)
+      pub into_on : (q.len.0 ≡ 0 → ⊥) → (s : Step) → step_of s ≡ walk_step report_shape (report_reader_in b k M) advance (walk_of w) → Goes b k M w (Ok (Of s.walk))
       unfolding Goes last_in
       into_on h s f =
           let i : 0 < word_shape.count (tree_words_of t.tree) = omega (arith, counts) in
@@ -143,20 +123,20 @@ module _ (b : List ℕ) (M : Mode) (k : ℕ) (w : Walk) where
     said : (walk_step S O skip (walk_of w)).0 ≡ answer_report (answer_of s.answer)
     said = sym (ap (λ x. x.0) (words skip s e))
 
-    pub go_refused : (r : Refusal) → s.answer ≡ answers.Refused r → Goes b k M w (Found (spans.Refused r))
+    pub go_refused : (r : Refusal) → s.answer ≡ Err r → Goes b k M w (Err r)
     unfolding Goes last_of last_in answer_report answer_of
     go_refused r q = sym (ap span_reported (after (refused r.number r.tree) (said ∙ rw q)))
 
-    pub go_none : s.answer ≡ answers.None → Goes b k M w (Found spans.None)
+    pub go_none : s.answer ≡ Ok None → Goes b k M w (Ok (Found None))
     unfolding Goes last_of last_in answer_report answer_of
     go_none q = sym (ap span_reported (after none (said ∙ rw q)))
 
-    module _ (t : ReportedTree) (q : s.answer ≡ answers.Tree t) where
+    module _ (t : ReportedTree) (q : s.answer ≡ Ok (Some t)) where
       tells : (walk_step S O skip (walk_of w)).0 ≡ one (shown_report (reported_of t))
       unfolding answer_report answer_of
       tells = said ∙ rw q
 
-      pub go_on_lem : 0 < s.walk.left → Goes b k M w (Of s.walk)
+      pub go_on_lem : 0 < s.walk.left → Goes b k M w (Ok (Of s.walk))
       unfolding Goes last_in
       go_on_lem h =
           let n : ltb 0 past.left ≡ true = ap (λ (x : steps.Walk). ltb 0 x.left) to ∙ lt-ltb _ _ h in
@@ -175,40 +155,43 @@ pub ruleset last_cases = (into_leaf, into_empty, into_on, go_refused, go_none, g
 
 -- ---- the loop, at walk w
 
-module _ (b : List ℕ) (M : Mode) (k : ℕ) (first w : Walk) (r : Last) (g : Goes b k M w r) where
+module _ (b : List ℕ) (M : Mode) (k : ℕ) (first w : Walk) (r : Result Last Refusal) (g : Goes b k M w r) where
   module _ (i : last_in b k M (walk_of first) ≡ last_in b k M (walk_of w)) where
-    pub loop_found : (a : LastSpan) → r ≡ Found a → last_of a ≡ last_in b k M (walk_of first)
+    pub loop_refused : (a : Refusal) → r ≡ Err a → last_of (Err a) ≡ last_in b k M (walk_of first)
+    unfolding Goes
+    loop_refused a q = subst (Goes b k M w) q g ∙ sym i
+
+    pub loop_found : (a : Option ReportedSpan) → r ≡ Ok (Found a) → last_of (Ok a) ≡ last_in b k M (walk_of first)
     unfolding Goes
     loop_found a q = subst (Goes b k M w) q g ∙ sym i
 
-    pub loop_same : (v : Walk) → r ≡ Of v → last_in b k M (walk_of first) ≡ last_in b k M (walk_of v)
+    pub loop_same : (v : Walk) → r ≡ Ok (Of v) → last_in b k M (walk_of first) ≡ last_in b k M (walk_of v)
     unfolding Goes
     loop_same v q = i ∙ (subst (Goes b k M w) q g).same
 
-  pub loop_fewer : (v : Walk) → r ≡ Of v → v.left < w.left
-  unfolding Goes
-  loop_fewer v q = (subst (Goes b k M w) q g).fewer
+pub loop_fewer : (b : List ℕ) (M : Mode) (k : ℕ) (w v : Walk) → Goes b k M w (Ok (Of v)) → v.left < w.left
+unfolding Goes
+loop_fewer b M k w v g = g.fewer
 
-pub ruleset loop_cases = (loop_found, loop_same, loop_fewer)
+pub ruleset loop_cases = (loop_refused, loop_found, loop_same, loop_fewer)
 
 -- ---- document 01's mode, behind row 1
 
 module _ (b : List ℕ) (k : ℕ) (parts symbols : List ℕ) where
-  found : (w : Walk) (r : LastSpan) → last_of r ≡ last_reported b k parts symbols (walk_of w) → LastFound b k parts symbols w r
+  found : (w : Walk) (r : Result (Option ReportedSpan) Refusal) → last_of r ≡ last_reported b k parts symbols (walk_of w) → LastFound b k parts symbols w r
   unfolding last_words
   found w r e = record { exact = e; words = ap (mapped (λ (s : List ℕ × Bool). s.0)) e ∙ own_last_same b k parts symbols (walk_of w) }
 
-  module _ (w : Walk) (s : Bool) (e : s ≡ sizes k parts symbols) where
-    pub whole_1 : not s ≡ true → LastFound b k parts symbols w (spans.Refused (record { number = 1; tree = 0 }))
+  module _ (w : Walk) where
+    pub whole_1 : (i : Refusal) → Speaks k parts symbols i → LastFound b k parts symbols w (Err i)
     unfolding last_of walk_step own_reader
-    whole_1 h =
-        let f : sizes k parts symbols ≡ false = sym e ∙ not-true s h in
+    whole_1 i z =
+        let f : sizes k parts symbols ≡ false = z.sizes in
+        let g = z.refusal in
         let q : (walk_step S (word_reader b k (own_mode parts symbols)) skip (walk_of w)).0 ≡ refused 1 0 = simp f in
-        found w (spans.Refused (record { number = 1; tree = 0 })) (sym (ap span_reported (after b (own_mode parts symbols) k w (refused 1 0) q)))
+        rw g (found w (Err (record { number = 1; tree = 0 })) (sym (ap span_reported (after b (own_mode parts symbols) k w (refused 1 0) q))))
 
-    pub whole_last : not s ≡ false → (N : Limits) → limits_of N ≡ own_limits (length parts / part_size) (length symbols)
-        → (r : LastSpan) → last_of r ≡ last_in b k (mode_of N parts (pair_of N parts) symbols) (walk_of w) → LastFound b k parts symbols w r
+    pub whole_last : (B : Buffer) → Silent b k parts symbols B → (r : Result (Option ReportedSpan) Refusal)
+        → last_of r ≡ last_in B.bytes.now B.trees (mode_in B.tables) (walk_of w) → LastFound b k parts symbols w r
     unfolding last_in own_reader
-    whole_last h N d r q = found w r (q ∙ ap (λ (M : Mode). last_in b k M (walk_of w)) (sizes_mode k parts symbols s e h N d))
-
-pub ruleset whole_cases = (sizes_trees, sizes_whole, whole_1, whole_last)
+    whole_last B z r q = found w r (q ∙ (λ i. last_in (z.bytes i) (z.trees i) (z.mode i) (walk_of w)))

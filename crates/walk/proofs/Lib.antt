@@ -1,4 +1,4 @@
-pub mod SizesReturns
+pub mod BufferReturns
 pub mod WalkWords
 pub mod WalkReturns
 pub mod LastReturns

@@ -7,6 +7,7 @@ use native.Mathlib.Omega.{arith}
 use borrow.Author.Tests.{le-leb, lt-leb, leb-true, lt-ltb, le-ltb, eq-eqb, ne_eqb, not-true, not-false}
 use lib.Dec.{leb, ltb}
 use lib.ListN.{length}
+use Rattle.std.specs.Prelude.{Option, Some, None, Result, Ok, Err}
 use Rattle.format.specs.Reader.{Reader, Reply, got, bad, none, one, refused}
 use Rattle.format.specs.Walk as steps
 use Rattle.format.specs.Walk.{WalkCall, advance, skip, walk_fits, walk_read, walk_step}
@@ -21,28 +22,22 @@ use Rattle.format.specs.Loose.{Loose, loose_at, beside}
 use Rattle.tree.specs.Loose.{loose_of}
 use Rattle.tree.specs.declared.loose.Loose as looses
 use Rattle.tree.specs.Types.{resolved, tree_words_of}
-use Rattle.tree.specs.Mode.{limits_of, mode_of}
-use Rattle.tree.specs.declared.limits.Limits.{Limits}
+use Rattle.tree.specs.Tables.{mode_in}
+use Rattle.tree.specs.declared.tables.Tables.{Tables}
 use Rattle.tree.specs.declared.refusal.Refusal.{Refusal}
 use Rattle.tree.specs.declared.types.TokenTree.{TokenTree}
 use Rattle.tree.specs.declared.types.TokenTree.TheVariants as trees
 use Rattle.tree.specs.declared.types.Leaf.{Leaf}
 use Rattle.tree.specs.declared.types.Leaf.TheVariants as leaves
 use Rattle.tree.specs.declared.types.Subtree.{Subtree}
-use Rattle.decode.specs.Decode.{tree_answer, read_in}
-use Rattle.decode.specs.declared.decode.TreeAt.{TreeAt}
-use Rattle.decode.specs.declared.decode.TreeRead.{TreeRead}
-use Rattle.decode.specs.declared.decode.TreeRead.TheVariants as reads
-use Rattle.decode.proofs.DecodeUse.{decoded_got, decoded_refused}
+use Rattle.decode.specs.Decode.{TreeAt, read_in}
 use Rattle.walk.specs.Source.{trees_sized, sizes, tree_shape, tree_reader_in, report_shape, report_reader_in}
 use Rattle.walk.specs.Walk.{walk_of, answer_of, step_of, Stepped, Within, ReadAt, Begins, passed, passed_over, call_of}
 use Rattle.walk.specs.declared.walk.Walk.{Walk}
-use Rattle.walk.specs.declared.walk.Answer.TheVariants.{Tree, None, Refused}
 use Rattle.walk.specs.declared.walk.Step.{Step}
-use Rattle.walk.specs.declared.walk.Begun.{Begun}
-use Rattle.walk.specs.declared.walk.Begun.TheVariants as begun
-use Rattle.tree.proofs.OwnMode.{pair_of}
-use Rattle.walk.proofs.SizesReturns.{mode_sized, sizes_trees, sizes_whole, sizes_mode}
+use Rattle.walk.specs.RowOne.{Silent, Speaks}
+use Rattle.walk.specs.declared.buffer.Buffer.{Buffer}
+use Rattle.walk.proofs.BufferReturns.{mode_sized}
 use Rattle.walk.proofs.WalkWords.{in_words, in_report, reads_decoded, walk_words, walk_report}
 
 -- a tree that is read ends in the buffer
@@ -51,39 +46,6 @@ unfolding read_in
 decoded_inside b M n at y e =
     let q = clean (resolved M) (rules (mode_tables M)) n at (tree_at b at) y.tree y.next y.children.0 e in
     (subst (Ended b at) q.stands (tree_ended b at)).1
-
--- ---- answers
-
-module _ (w : Walk) where
-  pub refuse_is : (r n : ℕ) → step_of (record { answer = Refused (record { number = r; tree = n }); walk = w }) ≡ (refused r n, walk_of w)
-  unfolding answer_of
-  refuse_is r n = refl
-
-  pub none_is : step_of (record { answer = None; walk = w }) ≡ (none, walk_of w)
-  unfolding answer_of
-  none_is = refl
-
-  pub onward_is : (t : TokenTree) (x : looses.Loose) (j p : ℕ) → step_of (record { answer = Tree (record { tree = t; loose = x }); walk = record { place = p; number = w.number + j; left = w.left - j } })
-      ≡ (one (t, loose_of x), record { place = p; number = w.number + j; left = w.left - j })
-  unfolding answer_of
-  onward_is t x j p = refl
-
--- ---- row 10
-
-module _ (b : List ℕ) (k : ℕ) (w : Walk) where
-  pub fits_place : length b < w.place → false ≡ (leb w.place (length b) && leb (w.number + w.left) k)
-  fits_place h = simp (lt-leb _ _ h)
-
-  module _ (h₁ : w.place ≤ length b) where
-    pub fits_left : k < w.left → false ≡ (leb w.place (length b) && leb (w.number + w.left) k)
-    fits_left h = let d : leb (w.number + w.left) k ≡ false = lt-leb (w.number + w.left) k (omega arith) in simp (le-leb _ _ h₁, d)
-
-    module _ (h₂ : w.left ≤ k) where
-      pub fits_number : k - w.left < w.number → false ≡ (leb w.place (length b) && leb (w.number + w.left) k)
-      fits_number h = let d : leb (w.number + w.left) k ≡ false = lt-leb (w.number + w.left) k (omega arith) in simp (le-leb _ _ h₁, d)
-
-      pub fits_all : w.number ≤ k - w.left → true ≡ (leb w.place (length b) && leb (w.number + w.left) k)
-      fits_all h = let d : leb (w.number + w.left) k ≡ true = le-leb (w.number + w.left) k (omega arith) in simp (le-leb _ _ h₁, d)
 
 -- ---- what both steps begin with
 
@@ -105,17 +67,17 @@ read_refused : (R : Reader (TokenTree × Loose)) (w : steps.Walk) (call : WalkCa
 read_refused R w advance i = refl
 read_refused R w skip i = refl
 
-module _ (b parts pair symbols : List ℕ) (k : ℕ) (N : Limits) (w : Walk) (s : trees_sized k ≡ true) (x : Bool) (e : x ≡ (leb w.place (length b) && leb (w.number + w.left) k)) where
+module _ (b : List ℕ) (k : ℕ) (t : Tables) (w : Walk) (s : trees_sized k ≡ true) (x : Bool) (e : x ≡ (leb w.place (length b) && leb (w.number + w.left) k)) where
   abbrev M : Mode
-  M = mode_of N parts pair symbols
+  M = mode_in t
 
   abbrev R : Reader (TokenTree × Loose)
   R = report_reader_in b k M
 
   all_sized : R.sized ≡ true
-  all_sized = mode_sized b k N parts pair symbols s
+  all_sized = mode_sized b k t s
 
-  pub begin_10 : not x ≡ true → Begins b k M w (begun.Refused (record { number = 10; tree = 0 }))
+  pub begin_10 : not x ≡ true → Begins b k M w (Err (record { number = 10; tree = 0 }))
   unfolding Begins report_reader_in tree_reader_in
   begin_10 h = λ call. not_fitting R (walk_of w) call all_sized (sym e ∙ not-true x h)
 
@@ -130,33 +92,31 @@ module _ (b parts pair symbols : List ℕ) (k : ℕ) (N : Limits) (w : Walk) (s 
         let z = leb-true (w.number + w.left) k (and_right (leb w.place (length b)) (leb (w.number + w.left) k) (sym e ∙ not-false x h₁)) in
         omega arith
 
-    pub begin_none : w.left ≡ 0 → Begins b k M w begun.None
+    pub begin_none : w.left ≡ 0 → Begins b k M w (Ok None)
     unfolding Begins
     begin_none h = λ call. none_left R (walk_of w) call all_sized fitting h
 
-    module _ (h₂ : w.left ≡ 0 → ⊥) (r : TreeRead) (f : r ≡ tree_answer (read_in b M w.number w.place)) where
+    module _ (h₂ : w.left ≡ 0 → ⊥) where
       reads_on : (call : WalkCall) (z : Reply (TokenTree × Loose)) → beside (loose_at b w.place) (read_in b M w.number w.place) ≡ z
           → walk_step report_shape R call (walk_of w) ≡ walk_read report_shape R call (walk_of w) z
       reads_on call z q =
           some_left R (walk_of w) call all_sized fitting h₂
           ∙ ap (walk_read report_shape R call (walk_of w)) (reads_decoded b k M w.number w.place ∙ q)
 
-      pub begin_refused : (i : ℕ) → r ≡ reads.Refused i → Begins b k M w (begun.Refused (record { number = i; tree = w.number }))
+      pub begin_refused : (r : Refusal) → read_in b M w.number w.place ≡ bad r.number → r.tree ≡ w.number → Begins b k M w (Err r)
       unfolding Begins
-      begin_refused i g = λ call.
-          let d = decoded_refused (read_in b M w.number w.place) r f i g in
-          sym (reads_on call (bad i) (ap (beside (loose_at b w.place)) d) ∙ read_refused R (walk_of w) call i)
+      begin_refused r d i = λ call.
+          rw i (sym (reads_on call (bad r.number) (ap (beside (loose_at b w.place)) d) ∙ read_refused R (walk_of w) call r.number))
 
-      pub begin_got : (y : TreeAt) → r ≡ reads.Got y → Begins b k M w (begun.Read y)
+      pub begin_got : (y : TreeAt) → read_in b M w.number w.place ≡ got y.tree y.next y.children.0 → Begins b k M w (Ok (Some y))
       unfolding Begins
-      begin_got y g =
-          let d = decoded_got (read_in b M w.number w.place) r f y g in
+      begin_got y d =
           record {
             step = λ call. reads_on call (got (y.tree, loose_at b w.place) y.next y.children.0) (ap (beside (loose_at b w.place)) d);
             within = record { some = omega arith; trees = trees_within; bytes = decoded_inside b M w.number w.place y d };
           }
 
-pub ruleset walk_cases = (refuse_is, none_is, onward_is, fits_place, fits_left, fits_number, fits_all, begin_10, begin_none, begin_refused, begin_got)
+pub ruleset begin_cases = (begin_10, begin_none, begin_refused, begin_got)
 
 -- ---- past a tree
 
@@ -183,41 +143,21 @@ module _ (n : ℕ) (w : Walk) (y : TreeAt) (x : Loose) (s : Step) where
       let c : tree_shape.count y.tree ≡ p.len.0 = ap tree_shape.count e ∙ (subtree_holds p).1 in
       q ∙ simp (d, c)
 
-  module _ (count : ℕ) where
-    pub past_three : w.left ≤ count → step_of s ≡ (refused 3 w.number, walk_of w) → step_of s ≡ passed_over n (walk_of w) y x count
-    unfolding passed_over
-    past_three h q = q ∙ simp (le-leb _ _ h)
-
-    module _ (h₁ : count < w.left) (z : ℕ) (f : z ≡ y.children.0) (h₂ : y.next ≤ n) where
-      pub past_nine : n - y.next < z → step_of s ≡ (refused 9 w.number, walk_of w) → step_of s ≡ passed_over n (walk_of w) y x count
-      unfolding passed_over
-      past_nine h q =
-          let d : ltb n (y.next + y.children.0) ≡ true = lt-ltb n (y.next + y.children.0) (omega arith) in
-          q ∙ simp (lt-leb _ _ h₁, d)
-
-      pub past_on : z ≤ n - y.next
-          → step_of s ≡ (one (y.tree, x), record { place = y.next + z; number = w.number + (1 + count); left = w.left - (1 + count) })
-          → step_of s ≡ passed_over n (walk_of w) y x count
-      unfolding passed_over
-      past_on h q =
-          let d : ltb n (y.next + y.children.0) ≡ false = le-ltb n (y.next + y.children.0) (omega arith) in
-          q ∙ simp (lt-leb _ _ h₁, d, f)
-
-pub ruleset past_cases = (past_leaf, past_tree, past_three, past_nine, past_on)
+pub ruleset past_cases = (past_leaf, past_tree)
 
 -- ---- the two steps
 
-module _ (b : List ℕ) (M : Mode) (k : ℕ) (w : Walk) (r : Begun) (e : Begins b k M w r) where
-  pub step_none : (call : WalkCall) (s : Step) → r ≡ begun.None → step_of s ≡ (none, walk_of w) → step_of s ≡ walk_step report_shape (report_reader_in b k M) call (walk_of w)
+module _ (b : List ℕ) (M : Mode) (k : ℕ) (w : Walk) (r : Result (Option TreeAt) Refusal) (e : Begins b k M w r) where
+  pub step_none : (call : WalkCall) (s : Step) → r ≡ Ok None → step_of s ≡ (none, walk_of w) → step_of s ≡ walk_step report_shape (report_reader_in b k M) call (walk_of w)
   unfolding Begins
   step_none call s q f = f ∙ subst (Begins b k M w) q e call
 
-  pub step_refused : (call : WalkCall) (s : Step) (i : Refusal) → r ≡ begun.Refused i → step_of s ≡ (refused i.number i.tree, walk_of w)
+  pub step_refused : (call : WalkCall) (s : Step) (i : Refusal) → r ≡ Err i → step_of s ≡ (refused i.number i.tree, walk_of w)
       → step_of s ≡ walk_step report_shape (report_reader_in b k M) call (walk_of w)
   unfolding Begins
   step_refused call s i q f = f ∙ subst (Begins b k M w) q e call
 
-  module _ (y : TreeAt) (q : r ≡ begun.Read y) where
+  module _ (y : TreeAt) (q : r ≡ Ok (Some y)) where
     read_at_lem : ReadAt b k M w y
     unfolding Begins
     read_at_lem = subst (Begins b k M w) q e
@@ -257,13 +197,10 @@ module _ (b parts symbols : List ℕ) (k : ℕ) (w : Walk) (call : WalkCall) (r 
         reports = ap in_report q ∙ walk_report b k (own_mode parts symbols) call (walk_of w);
       }
 
-  module _ (s : Bool) (e : s ≡ sizes k parts symbols) where
-    pub front_1 : not s ≡ true → step_of r ≡ (refused 1 0, walk_of w) → Stepped b k parts symbols call w r
-    unfolding walk_step report_reader_in tree_reader_in
-    front_1 h q = let f : sizes k parts symbols ≡ false = sym e ∙ not-true s h in stepped (q ∙ simp f)
+  pub front_1 : (i : Refusal) → Speaks k parts symbols i → step_of r ≡ (refused i.number i.tree, walk_of w) → Stepped b k parts symbols call w r
+  unfolding walk_step report_reader_in tree_reader_in
+  front_1 i z q = let f : sizes k parts symbols ≡ false = z.sizes in let g = z.refusal in stepped (q ∙ rw g (simp f))
 
-    pub front_step : not s ≡ false → (N : Limits) → limits_of N ≡ own_limits (length parts / part_size) (length symbols)
-        → step_of r ≡ walk_step report_shape (report_reader_in b k (mode_of N parts (pair_of N parts) symbols)) call (walk_of w) → Stepped b k parts symbols call w r
-    front_step h N d q = stepped (q ∙ ap (λ (M : Mode). walk_step report_shape (report_reader_in b k M) call (walk_of w)) (sizes_mode k parts symbols s e h N d))
-
-pub ruleset front_cases = (sizes_trees, sizes_whole, front_1, front_step)
+  pub front_step : (B : Buffer) → Silent b k parts symbols B → step_of r ≡ walk_step report_shape (report_reader_in B.bytes.now B.trees (mode_in B.tables)) call (walk_of w)
+      → Stepped b k parts symbols call w r
+  front_step B z q = stepped (q ∙ (λ i. walk_step report_shape (report_reader_in (z.bytes i) (z.trees i) (z.mode i)) call (walk_of w)))

@@ -4,6 +4,7 @@ use mathlib.Core.Bool.{true}
 use mathlib.Core.Path.{◌≡◌, refl, sym, ap, ◌∙◌}
 use mathlib.Core.List.{List, [], ◌∷◌, map}
 use lib.ListN.{replicate}
+use Rattle.std.specs.Prelude.{Option, Result}
 use Rattle.format.specs.Verdict.{passed}
 use Rattle.format.specs.Reader.{Reader, Answer, one}
 use Rattle.format.specs.Walk as steps
@@ -15,12 +16,13 @@ use Rattle.format.specs.LastSpan.{end_span, last_span, end_loose, last_reported}
 use Rattle.format.specs.Loose.{Loose, loose_at, reported_shape, reported}
 use Rattle.format.proofs.Own.{own_walk_rule, own_last_span}
 use Rattle.format.proofs.OwnReported.{own_reported_rule, own_last_reported}
+use Rattle.tree.specs.declared.refusal.Refusal.{Refusal}
 use Rattle.walk.specs.Walk.{walk_of, step_words, step_report, Stepped}
 use Rattle.walk.specs.Last.{last_of, last_words, LastFound}
 use Rattle.walk.specs.Run.{Ran, walk_after}
 use Rattle.walk.specs.declared.walk.Walk.{Walk}
 use Rattle.walk.specs.declared.walk.Step.{Step}
-use Rattle.walk.specs.declared.last_span.LastSpan.{LastSpan}
+use Rattle.walk.specs.declared.last_span.ReportedSpan.{ReportedSpan}
 
 module _ (b : List ℕ) (k : ℕ) (parts symbols : List ℕ) where
   abbrev O : Reader (List ℕ)
@@ -85,9 +87,9 @@ module _ (b : List ℕ) (k : ℕ) (parts symbols : List ℕ) where
         ∙ sym (ran_end (replicate (1 + word_shape.count ((listing word_shape O).tree w.number)) advance) w singly r)
 
     -- the last span of the whole
-    pub last_rule : (r : LastSpan) → LastFound b k parts symbols first r → last_words r ≡ one (end_span ((listing word_shape O).tree (k - 1)))
+    pub last_rule : (r : Result (Option ReportedSpan) Refusal) → LastFound b k parts symbols first r → last_words r ≡ one (end_span ((listing word_shape O).tree (k - 1)))
     last_rule r e = e.words ∙ ap (last_span b k parts symbols) fresh ∙ own_last_span b k parts symbols ok
 
-    pub last_report_rule : (r : LastSpan) → LastFound b k parts symbols first r
+    pub last_report_rule : (r : Result (Option ReportedSpan) Refusal) → LastFound b k parts symbols first r
         → last_of r ≡ one (end_span ((listing word_shape O).tree (k - 1)), end_loose ((listing word_shape O).tree (k - 1), loose_at b ((listing word_shape O).place (k - 1))))
     last_report_rule r e = e.exact ∙ ap (last_reported b k parts symbols) fresh ∙ own_last_reported b k parts symbols ok

@@ -1,5 +1,5 @@
 -- The answers of `last_span` in document 01's numbers and values, and what its parts promise.
-use Rattle.std.specs.Prelude.{ℕ, ◌<◌, Bool, ◌≡◌, List}
+use Rattle.std.specs.Prelude.{ℕ, ◌<◌, Bool, ◌≡◌, List, Option, Some, None, Result, Ok, Err}
 use Rattle.format.specs.Reader as format
 use Rattle.format.specs.Walk as steps
 use Rattle.format.specs.Tables.{Mode, mode_tables}
@@ -10,25 +10,25 @@ use Rattle.format.specs.Reader.{Reader, mapped}
 use Rattle.tree.specs.Loose.{reported_of}
 use Rattle.tree.specs.Types.{span_list}
 use Rattle.tree.specs.declared.loose.ReportedTree.{ReportedTree}
+use Rattle.tree.specs.declared.refusal.Refusal.{Refusal}
 use Rattle.walk.specs.Source.{shown_report}
 use Rattle.walk.specs.Walk.{walk_of}
 use Rattle.walk.specs.declared.walk.Walk.{Walk}
-use Rattle.walk.specs.declared.last_span.LastSpan.{LastSpan}
-use Rattle.walk.specs.declared.last_span.LastSpan.TheVariants.{Span, None, Refused}
+use Rattle.walk.specs.declared.last_span.ReportedSpan.{ReportedSpan}
 use Rattle.walk.specs.declared.last_span.Last.{Last}
 use Rattle.walk.specs.declared.last_span.Last.TheVariants.{Found, Of}
 
 -- a span by its five words, with its report
-unfoldable pub last_of : LastSpan → format.Answer (List ℕ × Bool)
-last_of (Span s) = format.one (span_list s.span, s.loose)
-last_of None = format.none
-last_of (Refused r) = format.refused r.number r.tree
+unfoldable pub last_of : Result (Option ReportedSpan) Refusal → format.Answer (List ℕ × Bool)
+last_of (Ok (Some s)) = format.one (span_list s.span, s.loose)
+last_of (Ok None) = format.none
+last_of (Err r) = format.refused r.number r.tree
 
 -- and without
-unfoldable pub last_words : LastSpan → format.Answer (List ℕ)
+unfoldable pub last_words : Result (Option ReportedSpan) Refusal → format.Answer (List ℕ)
 last_words r = mapped (λ (s : List ℕ × Bool). s.0) (last_of r)
 
-pub record LastFound (b : List ℕ) (k : ℕ) (parts symbols : List ℕ) (w : Walk) (r : LastSpan) : Type 0 where
+pub record LastFound (b : List ℕ) (k : ℕ) (parts symbols : List ℕ) (w : Walk) (r : Result (Option ReportedSpan) Refusal) : Type 0 where
   pub exact : last_of r ≡ last_reported b k parts symbols (walk_of w)
   pub words : last_words r ≡ last_span b k parts symbols (walk_of w)
 
@@ -51,6 +51,7 @@ pub record Same (b : List ℕ) (k : ℕ) (M : Mode) (w v : Walk) : Type 0 where
   pub same : last_in b k M (walk_of w) ≡ last_in b k M (walk_of v)
   pub fewer : v.left < w.left
 
-unfoldable pub Goes : List ℕ → ℕ → Mode → Walk → Last → Type 0
-Goes b k M w (Found a) = last_of a ≡ last_in b k M (walk_of w)
-Goes b k M w (Of v) = Same b k M w v
+unfoldable pub Goes : List ℕ → ℕ → Mode → Walk → Result Last Refusal → Type 0
+Goes b k M w (Ok (Found a)) = last_of (Ok a) ≡ last_in b k M (walk_of w)
+Goes b k M w (Ok (Of v)) = Same b k M w v
+Goes b k M w (Err r) = last_of (Err r) ≡ last_in b k M (walk_of w)

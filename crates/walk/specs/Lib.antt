@@ -1,4 +1,5 @@
 pub mod Source
+pub mod RowOne
 pub mod Walk
 pub mod Last
 pub mod Run

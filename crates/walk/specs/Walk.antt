@@ -1,30 +1,28 @@
 -- The answers of walk steps in document 01's numbers and values, and what a step promises.
-use Rattle.std.specs.Prelude.{ℕ, ◌+◌, ◌-◌, ◌<◌, ◌≤◌, Bool, true, false, ◌≡◌, List, leb, ltb, length, if◌then◌else◌}
+use Rattle.std.specs.Prelude.{ℕ, ◌+◌, ◌-◌, ◌<◌, ◌≤◌, Bool, true, false, ◌≡◌, List, leb, ltb, length, if◌then◌else◌, Option, Some, None, Result, Ok, Err}
 use Rattle.format.specs.Reader as format
 use Rattle.format.specs.Walk as steps
 use Rattle.format.specs.Tables.{Mode}
 use Rattle.format.specs.Buffer.{word_shape, own_reader}
 use Rattle.format.specs.Loose.{Loose, loose_at, reported_shape, reported}
 use Rattle.tree.specs.Loose.{reported_of}
+use Rattle.tree.specs.declared.loose.ReportedTree.{ReportedTree}
+use Rattle.tree.specs.declared.refusal.Refusal.{Refusal}
 use Rattle.tree.specs.declared.types.TokenTree.{TokenTree}
-use Rattle.decode.specs.declared.decode.TreeAt.{TreeAt}
+use Rattle.decode.specs.Decode.{TreeAt}
 use Rattle.walk.specs.Source.{tree_reader, report_shape, report_reader_in, answer_words, answer_report}
 use Rattle.walk.specs.declared.walk.Walk.{Walk}
-use Rattle.walk.specs.declared.walk.Answer.{Answer}
-use Rattle.walk.specs.declared.walk.Answer.TheVariants.{Tree, None, Refused}
 use Rattle.walk.specs.declared.walk.Step.{Step}
-use Rattle.walk.specs.declared.walk.Begun.{Begun}
-use Rattle.walk.specs.declared.walk.Begun.TheVariants as begun
 
 -- "A walk is byte place, tree number, trees left."
 abbrev pub walk_of : Walk → steps.Walk
 walk_of w = record { place = w.place; number = w.number; left = w.left }
 
 -- "A refusal gives its number and a tree number"
-unfoldable pub answer_of : Answer → format.Answer (TokenTree × Loose)
-answer_of (Tree t) = format.one (reported_of t)
-answer_of None = format.none
-answer_of (Refused r) = format.refused r.number r.tree
+unfoldable pub answer_of : Result (Option ReportedTree) Refusal → format.Answer (TokenTree × Loose)
+answer_of (Ok (Some t)) = format.one (reported_of t)
+answer_of (Ok None) = format.none
+answer_of (Err r) = format.refused r.number r.tree
 
 abbrev pub step_of : Step → format.Answer (TokenTree × Loose) × steps.Walk
 step_of s = (answer_of s.answer, walk_of s.walk)
@@ -59,10 +57,10 @@ pub record ReadAt (b : List ℕ) (k : ℕ) (M : Mode) (w : Walk) (y : TreeAt) : 
   pub within : Within b w y
 
 -- the step is over, or a tree is read
-unfoldable pub Begins : List ℕ → ℕ → Mode → Walk → Begun → Type 0
-Begins b k M w begun.None = (call : steps.WalkCall) → (format.none, walk_of w) ≡ steps.walk_step report_shape (report_reader_in b k M) call (walk_of w)
-Begins b k M w (begun.Refused r) = (call : steps.WalkCall) → (format.refused r.number r.tree, walk_of w) ≡ steps.walk_step report_shape (report_reader_in b k M) call (walk_of w)
-Begins b k M w (begun.Read y) = ReadAt b k M w y
+unfoldable pub Begins : List ℕ → ℕ → Mode → Walk → Result (Option TreeAt) Refusal → Type 0
+Begins b k M w (Ok None) = (call : steps.WalkCall) → (format.none, walk_of w) ≡ steps.walk_step report_shape (report_reader_in b k M) call (walk_of w)
+Begins b k M w (Err r) = (call : steps.WalkCall) → (format.refused r.number r.tree, walk_of w) ≡ steps.walk_step report_shape (report_reader_in b k M) call (walk_of w)
+Begins b k M w (Ok (Some y)) = ReadAt b k M w y
 
 -- passing a tree asks no more of a buffer than its length
 unfoldable pub passed : ℕ → steps.Walk → TreeAt → Loose → format.Answer (TokenTree × Loose) × steps.Walk

@@ -1,20 +1,18 @@
 // The last span of the trees that a walk has left.
-ghost use Rattle.std.specs.Prelude.{◌≡◌, true};
+ghost use Rattle.std.specs.Prelude.{◌≡◌, Ok};
 ghost use Rattle.format.specs.LastSpan.{end_span};
 ghost use Rattle.tree.specs.Types.{span_list, tree_words_of};
-ghost use Rattle.tree.specs.Mode.{mode_of, Whole};
+ghost use Rattle.tree.specs.Tables.{mode_in};
 ghost use Rattle.tree.specs.declared.types.TokenTree.TheVariants as trees;
-ghost use Rattle.walk.specs.Source.{trees_sized};
 ghost use Rattle.walk.specs.Walk.{walk_of};
 ghost use Rattle.walk.specs.Last.{last_of, last_in, AtLast, Goes, LastFound};
 
-use crate::sizes::sized;
-use crate::walk::{Answer, Walk, walk_in};
-use tree::limits::{Limits, own_limits};
+use crate::buffer::Buffer;
+use crate::sizes::own_buffer;
+use crate::walk::{Walk, walk_in};
 use tree::loose::{ReportedTree, closing_loose, opening_loose};
 use tree::refusal::Refusal;
 use tree::types::{Leaf, Span, TokenTree};
-use width::PART_WORDS;
 
 // A span, and whether a form of fewer bytes than those it was read from holds it.
 #[derive(Clone, Copy)]
@@ -23,20 +21,14 @@ pub struct ReportedSpan {
     pub loose: bool,
 }
 
-#[derive(Clone, Copy)]
-pub enum LastSpan {
-    Span(ReportedSpan),
-    None,
-    Refused(Refusal),
-}
-
 // What is last of a walk: found, or what is last of another one.
 #[derive(Clone, Copy)]
 enum Last {
-    Found(LastSpan),
+    Found(Option<ReportedSpan>),
     Of(Walk),
 }
 
+#[tactic(auto, unfolding(tree::specs::Types::tree_words_of))]
 fn leaf_span(leaf: Leaf) -> Span
     ensures { span_list result ≡ end_span (tree_words_of (trees.Leaf leaf)) }
 {
@@ -48,109 +40,71 @@ fn leaf_span(leaf: Leaf) -> Span
 }
 
 // The last tree of a walk, and into it if it holds any.
-fn into(
-    b: &[u8],
-    trees: u32,
-    limits: Limits,
-    parts: &[u32],
-    pair: &[u32],
-    symbols: &[u32],
-    walk: Walk,
-    last: ReportedTree,
-) -> Last
-    requires whole { Whole limits parts.now pair.now symbols.now }
-    requires trees_value { trees_sized trees ≡ true }
-    requires at_last { AtLast b.now trees (mode_of limits parts.now pair.now symbols.now) walk last }
-    ensures { Goes b.now trees
-        (mode_of limits parts.now pair.now symbols.now) walk result }
+#[tactic(auto, using(crate::proofs::LastReturns::last_cases))]
+fn into(buffer: &Buffer, walk: Walk, last: ReportedTree) -> Last
+    requires { AtLast buffer.now.bytes.now buffer.now.trees (mode_in buffer.now.tables) walk last }
+    ensures { Goes buffer.now.bytes.now buffer.now.trees (mode_in buffer.now.tables) walk
+        (Ok result) }
 {
-    let tree = last.tree;
-    let loose = last.loose;
-    match tree {
-        TokenTree::Leaf(leaf) => Last::Found(LastSpan::Span(ReportedSpan {
+    match last.tree {
+        TokenTree::Leaf(leaf) => Last::Found(Some(ReportedSpan {
             span: leaf_span(leaf),
-            loose: opening_loose(loose),
+            loose: opening_loose(last.loose),
         })),
         TokenTree::Subtree(subtree) => {
-            let count = subtree.len;
-            if count.0 == 0 {
+            if subtree.len.0 == 0 {
                 let closing = subtree.closing;
-                return Last::Found(LastSpan::Span(ReportedSpan {
+                return Last::Found(Some(ReportedSpan {
                     span: closing,
-                    loose: closing_loose(loose),
+                    loose: closing_loose(last.loose),
                 }));
             }
-            let step = walk_in(b, trees, limits, parts, pair, symbols, walk, false);
-            let then = step.walk;
-            Last::Of(then)
+            Last::Of(walk_in(buffer, walk, false).walk)
         }
     }
 }
 
 // Past one tree, or into it if it is the last.
-fn go_on(
-    b: &[u8],
-    trees: u32,
-    limits: Limits,
-    parts: &[u32],
-    pair: &[u32],
-    symbols: &[u32],
-    walk: Walk,
-) -> Last
-    requires whole { Whole limits parts.now pair.now symbols.now }
-    requires trees_value { trees_sized trees ≡ true }
-    ensures { Goes b.now trees
-        (mode_of limits parts.now pair.now symbols.now) walk result }
+#[tactic(auto, using(crate::proofs::LastReturns::last_cases))]
+fn go_on(buffer: &Buffer, walk: Walk) -> Result<Last, Refusal>
+    ensures { Goes buffer.now.bytes.now buffer.now.trees (mode_in buffer.now.tables) walk result }
 {
-    let step = walk_in(b, trees, limits, parts, pair, symbols, walk, true);
-    let answer = step.answer;
-    match answer {
-        Answer::Refused(refusal) => Last::Found(LastSpan::Refused(refusal)),
-        Answer::None => Last::Found(LastSpan::None),
-        Answer::Tree(tree) => {
-            let then = step.walk;
-            if 0 < then.left {
-                return Last::Of(then);
-            }
-            into(b, trees, limits, parts, pair, symbols, walk, tree)
-        }
+    let step = walk_in(buffer, walk, true);
+    let Some(tree) = step.answer? else {
+        return Ok(Last::Found(None));
+    };
+    let then = step.walk;
+    if 0 < then.left {
+        return Ok(Last::Of(then));
     }
+    Ok(into(buffer, walk, tree))
 }
 
-// Of a leaf its span, of a subtree that of its last descendant, of an empty one its closing span. Row 1 was asked by
-// whoever knows the mode.
-pub fn last_in(
-    b: &[u8],
-    trees: u32,
-    limits: Limits,
-    parts: &[u32],
-    pair: &[u32],
-    symbols: &[u32],
-    walk: Walk,
-) -> LastSpan
-    requires whole { Whole limits parts.now pair.now symbols.now }
-    requires trees_value { trees_sized trees ≡ true }
-    ensures { last_of result ≡ last_in b.now trees
-        (mode_of limits parts.now pair.now symbols.now) (walk_of walk) }
+// Of a leaf its span, of a subtree that of its last descendant, of an empty one its closing span.
+#[tactic(auto, using(crate::proofs::LastReturns::loop_cases))]
+pub fn last_in(buffer: &Buffer, walk: Walk) -> Result<Option<ReportedSpan>, Refusal>
+    ensures { last_of result ≡ last_in buffer.now.bytes.now buffer.now.trees
+        (mode_in buffer.now.tables) (walk_of walk) }
 {
     let mut here = walk;
     loop {
-        let last = go_on(b, trees, limits, parts, pair, symbols, here);
-        match last {
-            Last::Found(found) => return found,
+        match go_on(buffer, here)? {
+            Last::Found(found) => return Ok(found),
             Last::Of(then) => here = then,
         }
     }
 }
 
 // Over a part table whose last two are the root's, row 1 first.
-pub fn last_span(b: &[u8], trees: u32, parts: &[u32], symbols: &[u32], walk: Walk) -> LastSpan
+pub fn last_span(
+    b: &[u8],
+    trees: u32,
+    parts: &[u32],
+    symbols: &[u32],
+    walk: Walk,
+) -> Result<Option<ReportedSpan>, Refusal>
     ensures { LastFound b.now trees parts.now symbols.now walk result }
 {
-    if !sized(trees, parts, symbols) {
-        return LastSpan::Refused(Refusal { number: 1, tree: 0 });
-    }
-    let limits = own_limits(parts.len() / PART_WORDS, symbols.len());
-    let pair = &parts[PART_WORDS * limits.limit..];
-    last_in(b, trees, limits, parts, pair, symbols, walk)
+    let buffer = own_buffer(b, trees, parts, symbols)?;
+    last_in(&buffer, walk)
 }

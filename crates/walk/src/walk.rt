@@ -1,21 +1,22 @@
 // The steps of a walk. Any walk may be handed in, over any buffer: what it says is held against them first.
-ghost use Rattle.std.specs.Prelude.{◌≡◌, true, ◌&&◌, ◌+◌, ◌-◌, ◌<◌, ◌≤◌, leb, length};
+ghost use Rattle.std.specs.Prelude.{◌≡◌, ◌&&◌, ◌+◌, ◌-◌, ◌<◌, ◌≤◌, leb, length};
 ghost use Rattle.format.specs.Reader.{none, one, refused};
 ghost use Rattle.format.specs.Walk.{advance, skip, walk_step};
 ghost use Rattle.tree.specs.Loose.{loose_of};
-ghost use Rattle.tree.specs.Mode.{mode_of, Whole};
-ghost use Rattle.walk.specs.Source.{trees_sized, report_shape, report_reader_in};
+ghost use Rattle.tree.specs.Tables.{mode_in};
+ghost use Rattle.walk.specs.Source.{report_shape, report_reader_in};
 ghost use Rattle.walk.specs.Walk.{walk_of, step_of, Within, Begins, passed, passed_over, call_of, Stepped};
 
-use crate::sizes::sized;
-use decode::decode::{TreeAt, TreeRead, decode_in};
+use crate::buffer::Buffer;
+use crate::read::read_tree;
+use crate::sizes::own_buffer;
+use decode::decode::TreeAt;
 use decode::loose::loose_at;
-use tree::limits::{Limits, own_limits};
+use pack::row::{self, Row};
 use tree::loose::{Loose, ReportedTree};
 use tree::raw::{Descendants, place};
 use tree::refusal::Refusal;
 use tree::types::TokenTree;
-use width::PART_WORDS;
 
 #[derive(Clone, Copy)]
 pub struct Walk {
@@ -24,17 +25,10 @@ pub struct Walk {
     pub left: u32,
 }
 
-#[derive(Clone, Copy)]
-pub enum Answer {
-    Tree(ReportedTree),
-    None,
-    Refused(Refusal),
-}
-
-// What a step answers, and the walk that it leaves.
+// What a step answers, None where none is left, and the walk that it leaves.
 #[derive(Clone, Copy)]
 pub struct Step {
-    pub answer: Answer,
+    pub answer: Result<Option<ReportedTree>, Refusal>,
     pub walk: Walk,
 }
 
@@ -49,30 +43,29 @@ pub fn fresh(trees: u32) -> Walk
     }
 }
 
-pub fn refuse(number: u32, tree: u32, walk: Walk) -> Step
+#[tactic(auto, unfolding(crate::specs::Walk::answer_of))]
+pub fn refuse(number: Row, tree: u32, walk: Walk) -> Step
     ensures { step_of result ≡ (refused number tree, walk_of walk) }
 {
-    let refusal = Refusal {
-        number: number,
-        tree: tree,
-    };
     Step {
-        answer: Answer::Refused(refusal),
-        walk: walk,
+        answer: Err(Refusal { number, tree }),
+        walk,
     }
 }
 
 // None is left.
+#[tactic(auto, unfolding(crate::specs::Walk::answer_of))]
 fn over(walk: Walk) -> Step
     ensures { step_of result ≡ (none, walk_of walk) }
 {
     Step {
-        answer: Answer::None,
-        walk: walk,
+        answer: Ok(None),
+        walk,
     }
 }
 
 // The walk `trees` trees on.
+#[tactic(auto, unfolding(crate::specs::Walk::answer_of))]
 fn onward(walk: Walk, tree: TokenTree, loose: Loose, trees: u32, next: usize) -> Step
     requires { (walk.number + trees < 4294967296) × (trees ≤ walk.left) }
     ensures { step_of result ≡ (
@@ -80,18 +73,13 @@ fn onward(walk: Walk, tree: TokenTree, loose: Loose, trees: u32, next: usize) ->
       record { place = next; number = walk.number + trees; left = walk.left - trees },
     ) }
 {
-    let then = Walk {
-        place: next,
-        number: walk.number + trees,
-        left: walk.left - trees,
-    };
-    let reported = ReportedTree {
-        tree: tree,
-        loose: loose,
-    };
     Step {
-        answer: Answer::Tree(reported),
-        walk: then,
+        answer: Ok(Some(ReportedTree { tree, loose })),
+        walk: Walk {
+            place: next,
+            number: walk.number + trees,
+            left: walk.left - trees,
+        },
     }
 }
 
@@ -99,117 +87,71 @@ fn onward(walk: Walk, tree: TokenTree, loose: Loose, trees: u32, next: usize) ->
 fn fits(b: &[u8], trees: u32, walk: Walk) -> bool
     ensures { result ≡ (leb walk.place (length b.now) && leb (walk.number + walk.left) trees) }
 {
-    if b.len() < walk.place {
-        return false;
-    }
-    if trees < walk.left {
-        return false;
-    }
-    if trees - walk.left < walk.number {
-        return false;
-    }
-    true
+    walk.place <= b.len() && walk.left <= trees && walk.number <= trees - walk.left
 }
 
 // What both steps begin with: the step is over, or a tree is read. A whole step in here would hold a tree at another
 // place than the tree that is read, and both would be copied through memory.
-#[derive(Clone, Copy)]
-enum Begun {
-    None,
-    Refused(Refusal),
-    Read(TreeAt),
-}
-
-fn begin(
-    b: &[u8],
-    trees: u32,
-    limits: Limits,
-    parts: &[u32],
-    pair: &[u32],
-    symbols: &[u32],
-    walk: Walk,
-) -> Begun
-    requires whole { Whole limits parts.now pair.now symbols.now }
-    requires trees_value { trees_sized trees ≡ true }
-    ensures { Begins b.now trees
-        (mode_of limits parts.now pair.now symbols.now) walk result }
+#[tactic(auto, using(crate::proofs::WalkReturns::begin_cases))]
+fn begin(buffer: &Buffer, walk: Walk) -> Result<Option<TreeAt>, Refusal>
+    ensures { Begins buffer.now.bytes.now buffer.now.trees (mode_in buffer.now.tables) walk result }
 {
-    if !fits(b, trees, walk) {
-        return Begun::Refused(Refusal {
-            number: 10,
+    if !fits(buffer.bytes, buffer.trees, walk) {
+        return Err(Refusal {
+            number: row::STATE,
             tree: 0,
         });
     }
     if walk.left == 0 {
-        return Begun::None;
+        return Ok(None);
     }
-    let read = decode_in(b, limits, parts, pair, symbols, walk.number, walk.place);
-    match read {
-        TreeRead::Refused(number) => Begun::Refused(Refusal {
-            number: number,
-            tree: walk.number,
-        }),
-        TreeRead::Got(here) => Begun::Read(here),
-    }
+    Ok(Some(read_tree(buffer, walk.number, walk.place)?))
 }
 
 // Past a subtree: 3 if its count overruns the trees left, else 9 if its bytes overrun the buffer.
+#[tactic(auto, unfolding(crate::specs::Walk::passed_over))]
 fn past_subtree(b: &[u8], walk: Walk, here: TreeAt, loose: Loose, count: Descendants) -> Step
     requires { Within b.now walk here }
     ensures { step_of result ≡ passed_over (length b.now) (walk_of walk) here (loose_of loose)
         count.0 }
 {
     if walk.left <= count.0 {
-        return refuse(3, walk.number, walk);
+        return refuse(row::NEST, walk.number, walk);
     }
-    let children = here.children;
-    let bytes = place(children.0);
+    let bytes = place(here.children.0);
     if b.len() - here.next < bytes {
-        return refuse(9, walk.number, walk);
+        return refuse(row::BYTES, walk.number, walk);
     }
-    let tree = here.tree;
-    onward(walk, tree, loose, 1 + count.0, here.next + bytes)
+    onward(walk, here.tree, loose, 1 + count.0, here.next + bytes)
 }
 
 // Past the tree that was read and all that it holds.
+#[tactic(auto, using(crate::proofs::WalkReturns::past_cases))]
 fn past(b: &[u8], walk: Walk, here: TreeAt, loose: Loose) -> Step
     requires { Within b.now walk here }
     ensures { step_of result ≡ passed (length b.now) (walk_of walk) here (loose_of loose) }
 {
-    let tree = here.tree;
-    match tree {
-        TokenTree::Leaf(_) => onward(walk, tree, loose, 1, here.next),
+    match here.tree {
+        TokenTree::Leaf(_) => onward(walk, here.tree, loose, 1, here.next),
         TokenTree::Subtree(subtree) => past_subtree(b, walk, here, loose, subtree.len),
     }
 }
 
-// The next tree; with `skip` past all that it holds. Row 1 was asked by whoever knows the mode.
-pub fn walk_in(
-    b: &[u8],
-    trees: u32,
-    limits: Limits,
-    parts: &[u32],
-    pair: &[u32],
-    symbols: &[u32],
-    walk: Walk,
-    skip: bool,
-) -> Step
-    requires whole { Whole limits parts.now pair.now symbols.now }
-    requires trees_value { trees_sized trees ≡ true }
-    ensures { step_of result ≡ walk_step report_shape (report_reader_in b.now trees
-        (mode_of limits parts.now pair.now symbols.now)) (call_of skip) (walk_of walk) }
+// The next tree; with `skip` past all that it holds.
+#[tactic(auto, using(crate::proofs::WalkReturns::step_cases))]
+pub fn walk_in(buffer: &Buffer, walk: Walk, skip: bool) -> Step
+    ensures { step_of result ≡ walk_step report_shape (report_reader_in buffer.now.bytes.now
+        buffer.now.trees (mode_in buffer.now.tables)) (call_of skip) (walk_of walk) }
 {
-    let begun = begin(b, trees, limits, parts, pair, symbols, walk);
-    match begun {
-        Begun::None => over(walk),
-        Begun::Refused(refusal) => refuse(refusal.number, refusal.tree, walk),
-        Begun::Read(here) => {
-            let loose = loose_at(b, walk.place);
+    match begin(buffer, walk) {
+        Ok(None) => over(walk),
+        Err(refusal) => refuse(refusal.number, refusal.tree, walk),
+        Ok(Some(here)) => {
+            let loose = loose_at(buffer.bytes, walk.place);
             if skip {
-                return past(b, walk, here, loose);
+                return past(buffer.bytes, walk, here, loose);
             }
-            let tree = here.tree;
-            onward(walk, tree, loose, 1, here.next)
+            onward(walk, here.tree, loose, 1, here.next)
         }
     }
 }
@@ -218,12 +160,10 @@ pub fn walk_in(
 pub fn walk_by(b: &[u8], trees: u32, parts: &[u32], symbols: &[u32], walk: Walk, skip: bool) -> Step
     ensures { Stepped b.now trees parts.now symbols.now (call_of skip) walk result }
 {
-    if !sized(trees, parts, symbols) {
-        return refuse(1, 0, walk);
+    match own_buffer(b, trees, parts, symbols) {
+        Ok(buffer) => walk_in(&buffer, walk, skip),
+        Err(refusal) => refuse(refusal.number, refusal.tree, walk),
     }
-    let limits = own_limits(parts.len() / PART_WORDS, symbols.len());
-    let pair = &parts[PART_WORDS * limits.limit..];
-    walk_in(b, trees, limits, parts, pair, symbols, walk, skip)
 }
 
 // The next tree.

@@ -1,6 +1,8 @@
 // Widths and places of the list's words: the twins of the names in specs/Width of crate format.
 #![tactic(auto)]
 
+pub mod sort;
+
 // A span part: file, ast id, context.
 pub const PART_WORDS: usize = 3;
 

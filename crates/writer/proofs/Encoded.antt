@@ -7,6 +7,7 @@ use native.Mathlib.Omega.{arith}
 use borrow.Author.Tests.{le-leb, leb-true}
 use lib.Dec.{leb}
 use lib.ListN.{length, take, drop}
+use Rattle.std.specs.Prelude.{Result, Ok, Err}
 use Rattle.format.specs.Verdict.{Verdict, passed, refused, ◌and_then◌, rule}
 use Rattle.format.specs.Word.{put}
 use Rattle.format.specs.Write.{work_words}
@@ -21,8 +22,6 @@ use Rattle.format.proofs.WriterRefusal.{WriterRefused, refusal_is, refusal_given
 use Rattle.format.proofs.Shortest.{written_shortest}
 use Rattle.tree.specs.Refusal.{verdict_answer, report_answer}
 use Rattle.tree.specs.declared.refusal.Refusal.{Refusal}
-use Rattle.tree.specs.declared.refusal.Report.{Report}
-use Rattle.tree.specs.declared.refusal.Report.TheVariants as reports
 use Rattle.tree.proofs.Answers.{report_wrote, report_refused}
 use Rattle.writer.specs.Written.{Written}
 use Rattle.writer.specs.Encoded.{Encodes, Wrote}
@@ -44,14 +43,14 @@ bytes_enough parts symbols l out h = let m = packed_most parts symbols l in omeg
 
 -- ---- encode_list: its answer r, and what the lent runs hold then
 
-module _ (parts symbols l work out : List ℕ) (r : Report) (work' out' : List ℕ) (w : Written parts symbols l work out r work' out') where
+module _ (parts symbols l work out : List ℕ) (r : Result ℕ Refusal) (work' out' : List ℕ) (w : Written parts symbols l work out r work' out') where
   abbrev bytes : List ℕ
   bytes = packed parts symbols l
 
   abbrev words : List ℕ
   words = work_words (trees parts symbols l)
 
-  module _ (n : ℕ) (e : r ≡ reports.Wrote n) where
+  module _ (n : ℕ) (e : r ≡ Ok n) where
     told : (writer_verdict parts symbols l work out ≡ passed) × (length bytes ≡ n)
     told = report_wrote (writer_verdict parts symbols l work out) (length bytes) n (sym w.answer ∙ e)
 
@@ -107,22 +106,22 @@ module _ (parts symbols l work out : List ℕ) (r : Report) (work' out' : List �
 
   -- it is not refused without a cause: a list that rows 1 to 5 pass is written wherever there is room
   pub wrote_given : list_verdict parts symbols l ≡ passed → list_count l + 1 ≤ length work → length (packed parts symbols l) ≤ length out
-      → r ≡ reports.Wrote (length (packed parts symbols l))
+      → r ≡ Ok (length (packed parts symbols l))
   unfolding report_answer
   wrote_given ok h g = w.answer ∙ simp (ok, le-leb _ _ h, le-leb _ _ g)
 
   -- "Each number is given when its row holds and no earlier check fails, never otherwise."
-  pub refused_row : (x : Refusal) → r ≡ reports.Refused x → WriterRefused parts symbols l work out x.number x.tree
+  pub refused_row : (x : Refusal) → r ≡ Err x → WriterRefused parts symbols l work out x.number x.tree
   refused_row x e =
       refusal_is parts symbols l work out x.number x.tree
       (report_refused (writer_verdict parts symbols l work out) (length bytes) x (sym w.answer ∙ e))
 
-  pub row_refused : (i t : ℕ) → WriterRefused parts symbols l work out i t → r ≡ reports.Refused (record { number = i; tree = t })
+  pub row_refused : (i t : ℕ) → WriterRefused parts symbols l work out i t → r ≡ Err (record { number = i; tree = t })
   unfolding report_answer
   row_refused i t h = w.answer ∙ rw (refusal_given parts symbols l work out i t h)
 
   -- over tables that rows 1 to 5 pass, row 6 is the only one left
-  pub six_alone : list_verdict parts symbols l ≡ passed → (x : Refusal) → r ≡ reports.Refused x → (x.number ≡ 6) × (x.tree ≡ 0)
+  pub six_alone : list_verdict parts symbols l ≡ passed → (x : Refusal) → r ≡ Err x → (x.number ≡ 6) × (x.tree ≡ 0)
   six_alone ok x e =
       let v = report_refused (writer_verdict parts symbols l work out) (length bytes) x (sym w.answer ∙ e) in
       let u : Verdict = rule (leb (list_count l + 1) (length work)) 6 0 in
@@ -134,5 +133,5 @@ module _ (parts symbols l work out : List ℕ) (r : Report) (work' out' : List �
       f
 
   -- a refusal changes nothing of the output
-  pub refused_kept : (x : Refusal) → r ≡ reports.Refused x → out' ≡ out
+  pub refused_kept : (x : Refusal) → r ≡ Err x → out' ≡ out
   refused_kept x e = w.outs ∙ rw (report_refused (writer_verdict parts symbols l work out) (length bytes) x (sym w.answer ∙ e))

@@ -2,155 +2,110 @@
 ghost use Rattle.std.specs.Prelude.{◌≤◌, length};
 ghost use Rattle.format.specs.Builder.{holding_all};
 ghost use Rattle.format.specs.WordList.{list_count};
-ghost use Rattle.tree.specs.Mode.{mode_of};
 ghost use Rattle.passes.specs.Passed.{Passed};
+ghost use Rattle.passes.specs.Runs.{mode_by};
 ghost use Rattle.passes.specs.Run.{Ready, Run, Sized};
 ghost use Rattle.writer.specs.Written.{WrittenIn, Ruled, Finished};
 
-use crate::refuse::{refuse, refuse_at};
+use crate::refuse::refuse;
+use pack::row;
 use passes::bytes::put_once;
 use passes::five::first_absent;
+use passes::runs::Runs;
+use passes::scratch::Scratch;
 use passes::sizes::fill_once;
 use places::resolve::resolve;
-use tree::limits::Limits;
 use tree::raw::place;
-use tree::refusal::Report;
+use tree::refusal::Refusal;
 use width::TREE_WORDS;
 
 // Row 6 for the output, then its bytes.
 fn finish_once(
     l: &[u32],
-    limits: Limits,
-    parts: &[u32],
-    pair: &[u32],
-    symbols: &[u32],
-    opens: &[u32],
-    closes: &[u32],
-    syms: &[u32],
+    tables: &Runs,
+    scratch: &Scratch,
     work: &[u32],
     out: &mut [u8],
-) -> Report
-    requires passed { Passed (mode_of limits parts.now pair.now symbols.now) l.now }
-    requires run { Run (mode_of limits parts.now pair.now symbols.now) l.now 1 (list_count l.now) opens.now
-        closes.now syms.now }
-    requires sized { Sized (mode_of limits parts.now pair.now symbols.now) l.now 0 work.now }
-    ensures { Finished (mode_of limits parts.now pair.now symbols.now)
-        (holding_all l.now) out.old result out.new }
+) -> Result<usize, Refusal>
+    requires passed { Passed (mode_by tables.now) l.now }
+    requires run { Run (mode_by tables.now) l.now 1 (list_count l.now) scratch.now }
+    requires sized { Sized (mode_by tables.now) l.now 0 work.now }
+    ensures { Finished (mode_by tables.now) (holding_all l.now) out.old result out.new }
 {
     let total = place(work[0]);
     if out.len() < total {
-        return refuse(6);
+        return refuse(row::ROOM);
     }
-    put_once(
-        l,
-        limits,
-        parts,
-        pair,
-        symbols,
-        l.len() / TREE_WORDS,
-        opens,
-        closes,
-        syms,
-        work,
-        out,
-    );
-    Report::Wrote(total)
+    put_once(l, tables, l.len() / TREE_WORDS, scratch, work, out);
+    Ok(total)
 }
 
 // Row 6 for the work words, then those, then the output.
 fn write_sized(
     l: &[u32],
-    limits: Limits,
-    parts: &[u32],
-    pair: &[u32],
-    symbols: &[u32],
-    opens: &[u32],
-    closes: &[u32],
-    syms: &[u32],
+    tables: &Runs,
+    scratch: &Scratch,
     work: &mut [u32],
     out: &mut [u8],
-) -> Report
-    requires passed { Passed (mode_of limits parts.now pair.now symbols.now) l.now }
-    requires run { Run (mode_of limits parts.now pair.now symbols.now) l.now 1 (list_count l.now) opens.now
-        closes.now syms.now }
-    ensures { WrittenIn (mode_of limits parts.now pair.now symbols.now)
-        (holding_all l.now) work.old out.old result work.new out.new }
+) -> Result<usize, Refusal>
+    requires passed { Passed (mode_by tables.now) l.now }
+    requires run { Run (mode_by tables.now) l.now 1 (list_count l.now) scratch.now }
+    ensures { WrittenIn (mode_by tables.now) (holding_all l.now) work.old out.old result work.new out.new }
 {
     if work.len() <= l.len() / TREE_WORDS {
-        return refuse(6);
+        return refuse(row::ROOM);
     }
-    fill_once(l, limits, parts, pair, symbols, opens, closes, syms, work);
-    finish_once(
-        l, limits, parts, pair, symbols, opens, closes, syms, work, out,
-    )
+    fill_once(l, tables, scratch, work);
+    finish_once(l, tables, scratch, work, out)
 }
 
 // Row 5 below the root, then row 6.
 fn write_run(
     l: &[u32],
-    limits: Limits,
-    parts: &[u32],
-    pair: &[u32],
-    symbols: &[u32],
-    opens: &[u32],
-    closes: &[u32],
-    syms: &[u32],
+    tables: &Runs,
+    scratch: &Scratch,
     work: &mut [u32],
     out: &mut [u8],
-) -> Report
-    requires ruled { Ruled (mode_of limits parts.now pair.now symbols.now) l.now }
-    requires run { Run (mode_of limits parts.now pair.now symbols.now) l.now 1 (list_count l.now) opens.now
-        closes.now syms.now }
-    ensures { WrittenIn (mode_of limits parts.now pair.now symbols.now)
-        (holding_all l.now) work.old out.old result work.new out.new }
+) -> Result<usize, Refusal>
+    requires ruled { Ruled (mode_by tables.now) l.now }
+    requires run { Run (mode_by tables.now) l.now 1 (list_count l.now) scratch.now }
+    ensures { WrittenIn (mode_by tables.now) (holding_all l.now) work.old out.old result work.new out.new }
 {
     let count = l.len() / TREE_WORDS;
-    let found = first_absent(
-        l, limits, parts, pair, symbols, 1, count, opens, closes, syms,
-    );
+    let found = first_absent(l, tables, 1, count, scratch);
     if found < count {
-        return refuse_at(5, found);
+        return Err(Refusal {
+            number: row::ABSENT,
+            tree: found as u32,
+        });
     }
-    write_sized(
-        l, limits, parts, pair, symbols, opens, closes, syms, work, out,
-    )
+    write_sized(l, tables, scratch, work, out)
 }
 
 // Finds the indices, then writes.
 pub(crate) fn write_once(
     l: &[u32],
-    limits: Limits,
-    parts: &[u32],
-    pair: &[u32],
-    symbols: &[u32],
+    tables: &Runs,
     work: &mut [u32],
     out: &mut [u8],
-    part_slots: &mut [u32],
-    symbol_slots: &mut [u32],
-    opens: &mut [u32],
-    closes: &mut [u32],
-    syms: &mut [u32],
-) -> Report
-    requires ruled { Ruled (mode_of limits parts.now pair.now symbols.now) l.now }
-    requires ready { Ready limits.limit parts.now symbols.now part_slots.old symbol_slots.old opens.old
-        closes.old syms.old }
-    requires l_in_bounds { list_count l.now ≤ length opens.old }
-    ensures { WrittenIn (mode_of limits parts.now pair.now symbols.now)
-        (holding_all l.now) work.old out.old result work.new out.new }
+    scratch: &mut Scratch,
+) -> Result<usize, Refusal>
+    requires ruled { Ruled (mode_by tables.now) l.now }
+    requires ready { Ready tables.now scratch.old }
+    requires l_in_bounds { list_count l.now ≤ length scratch.old.opens.now }
+    ensures { WrittenIn (mode_by tables.now) (holding_all l.now) work.old out.old result work.new out.new }
 {
     resolve(
         l,
-        limits.limit,
-        parts,
-        symbols,
+        tables.limits.limit,
+        tables.parts,
+        tables.symbols,
         1,
-        part_slots,
-        symbol_slots,
-        opens,
-        closes,
-        syms,
+        scratch.part_slots,
+        scratch.symbol_slots,
+        scratch.opens,
+        scratch.closes,
+        scratch.syms,
     );
-    write_run(
-        l, limits, parts, pair, symbols, opens, closes, syms, work, out,
-    )
+    write_run(l, tables, scratch, work, out)
 }

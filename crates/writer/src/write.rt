@@ -1,333 +1,123 @@
 // The writer: rows 1 to 6 in turn, the work words, the bytes.
-ghost use Rattle.std.specs.Prelude.{◌≡◌, true, ◌&&◌};
+ghost use Rattle.std.specs.Prelude.{◌≡◌, true, ◌&&◌, ◌<◌, ◌≤◌};
 ghost use Rattle.format.specs.Builder.{holding_all};
 ghost use Rattle.format.specs.Verdict.{passed};
 ghost use Rattle.format.specs.Tables.{own_tables};
 ghost use Rattle.format.specs.WordList.{list_sized, list_rules};
-ghost use Rattle.tree.specs.Mode.{mode_of};
 ghost use Rattle.passes.specs.Passed.{Within, Passed};
-ghost use Rattle.passes.specs.Run.{Lent, Ready, Sized};
+ghost use Rattle.passes.specs.Runs.{mode_by};
+ghost use Rattle.passes.specs.Run.{Ready, Sized};
 ghost use Rattle.writer.specs.Written.{Written, WrittenIn, Ruled, Finished};
 
 use crate::once::write_once;
 use crate::refuse::refuse;
 use list::rows::list_sized;
 use list::sized::{list_rules, list_rules_holding};
+use pack::row;
 use passes::bytes::put_list;
 use passes::five::{root_present, row_five};
+use passes::runs::Runs;
+use passes::scratch::Scratch;
 use passes::sizes::fill_work;
 use places::resolve::build;
-use tree::limits::{Limits, own_limits};
+use tree::limits::own_limits;
 use tree::raw::place;
-use tree::refusal::{Report, Verdict};
+use tree::refusal::Refusal;
 use tree::sizes::tables_sized;
 use width::{PART_WORDS, TREE_WORDS};
 
 // Row 6 for the output, then its bytes.
 fn finish(
     l: &[u32],
-    limits: Limits,
-    parts: &[u32],
-    pair: &[u32],
-    symbols: &[u32],
+    tables: &Runs,
     work: &[u32],
     out: &mut [u8],
-    part_slots: &mut [u32],
-    symbol_slots: &mut [u32],
-    opens: &mut [u32],
-    closes: &mut [u32],
-    syms: &mut [u32],
-) -> Report
-    requires passed { Passed (mode_of limits parts.now pair.now symbols.now) l.now }
-    requires ready { Ready limits.limit parts.now symbols.now part_slots.old symbol_slots.old opens.old
-        closes.old syms.old }
-    requires sized { Sized (mode_of limits parts.now pair.now symbols.now) l.now 0 work.now }
-    ensures { Finished (mode_of limits parts.now pair.now symbols.now)
-        (holding_all l.now) out.old result out.new }
+    scratch: &mut Scratch,
+) -> Result<usize, Refusal>
+    requires passed { Passed (mode_by tables.now) l.now }
+    requires ready { Ready tables.now scratch.old }
+    requires sized { Sized (mode_by tables.now) l.now 0 work.now }
+    ensures { Finished (mode_by tables.now) (holding_all l.now) out.old result out.new }
 {
     let total = place(work[0]);
     if out.len() < total {
-        return refuse(6);
+        return refuse(row::ROOM);
     }
-    put_list(
-        l,
-        limits,
-        parts,
-        pair,
-        symbols,
-        l.len() / TREE_WORDS,
-        work,
-        out,
-        part_slots,
-        symbol_slots,
-        opens,
-        closes,
-        syms,
-    );
-    Report::Wrote(total)
+    put_list(l, tables, l.len() / TREE_WORDS, work, out, scratch);
+    Ok(total)
 }
 
 // Row 6 for the work words, then those, then the output.
 fn write_passed(
     l: &[u32],
-    limits: Limits,
-    parts: &[u32],
-    pair: &[u32],
-    symbols: &[u32],
+    tables: &Runs,
     work: &mut [u32],
     out: &mut [u8],
-    part_slots: &mut [u32],
-    symbol_slots: &mut [u32],
-    opens: &mut [u32],
-    closes: &mut [u32],
-    syms: &mut [u32],
-) -> Report
-    requires passed { Passed (mode_of limits parts.now pair.now symbols.now) l.now }
-    requires ready { Ready limits.limit parts.now symbols.now part_slots.old symbol_slots.old opens.old
-        closes.old syms.old }
-    ensures { WrittenIn (mode_of limits parts.now pair.now symbols.now)
-        (holding_all l.now) work.old out.old result work.new out.new }
+    scratch: &mut Scratch,
+) -> Result<usize, Refusal>
+    requires passed { Passed (mode_by tables.now) l.now }
+    requires ready { Ready tables.now scratch.old }
+    ensures { WrittenIn (mode_by tables.now) (holding_all l.now) work.old out.old result work.new out.new }
 {
     if work.len() <= l.len() / TREE_WORDS {
-        return refuse(6);
+        return refuse(row::ROOM);
     }
-    fill_work(
-        l,
-        limits,
-        parts,
-        pair,
-        symbols,
-        work,
-        part_slots,
-        symbol_slots,
-        opens,
-        closes,
-        syms,
-    );
-    finish(
-        l,
-        limits,
-        parts,
-        pair,
-        symbols,
-        work,
-        out,
-        part_slots,
-        symbol_slots,
-        opens,
-        closes,
-        syms,
-    )
+    fill_work(l, tables, work, scratch);
+    finish(l, tables, work, out, scratch)
 }
 
 // Row 5 below the root, then row 6.
 fn write_built(
     l: &[u32],
-    limits: Limits,
-    parts: &[u32],
-    pair: &[u32],
-    symbols: &[u32],
+    tables: &Runs,
     work: &mut [u32],
     out: &mut [u8],
-    part_slots: &mut [u32],
-    symbol_slots: &mut [u32],
-    opens: &mut [u32],
-    closes: &mut [u32],
-    syms: &mut [u32],
-) -> Report
-    requires ruled { Ruled (mode_of limits parts.now pair.now symbols.now) l.now }
-    requires ready { Ready limits.limit parts.now symbols.now part_slots.old symbol_slots.old opens.old
-        closes.old syms.old }
-    ensures { WrittenIn (mode_of limits parts.now pair.now symbols.now)
-        (holding_all l.now) work.old out.old result work.new out.new }
+    scratch: &mut Scratch,
+) -> Result<usize, Refusal>
+    requires ruled { Ruled (mode_by tables.now) l.now }
+    requires ready { Ready tables.now scratch.old }
+    ensures { WrittenIn (mode_by tables.now) (holding_all l.now) work.old out.old result work.new out.new }
 {
-    if l.len() / TREE_WORDS <= opens.len() {
-        return write_once(
-            l,
-            limits,
-            parts,
-            pair,
-            symbols,
-            work,
-            out,
-            part_slots,
-            symbol_slots,
-            opens,
-            closes,
-            syms,
-        );
+    if l.len() / TREE_WORDS <= scratch.opens.len() {
+        return write_once(l, tables, work, out, scratch);
     }
-    match row_five(
-        l,
-        limits,
-        parts,
-        pair,
-        symbols,
-        part_slots,
-        symbol_slots,
-        opens,
-        closes,
-        syms,
-    ) {
-        Verdict::Passed => write_passed(
-            l,
-            limits,
-            parts,
-            pair,
-            symbols,
-            work,
-            out,
-            part_slots,
-            symbol_slots,
-            opens,
-            closes,
-            syms,
-        ),
-        Verdict::Refused(at) => Report::Refused(at),
-    }
+    row_five(l, tables, scratch)?;
+    write_passed(l, tables, work, out, scratch)
 }
 
-// Rows 5 and 6 over slots that it builds.
-fn write_with(
+// Rows 5 and 6 over slots that it builds, with room for the indices of so many trees.
+fn write_with<const PART_SLOTS: usize, const SYMBOL_SLOTS: usize, const TREES: usize>(
     l: &[u32],
-    limits: Limits,
-    parts: &[u32],
-    pair: &[u32],
-    symbols: &[u32],
+    tables: &Runs,
     work: &mut [u32],
     out: &mut [u8],
-    part_slots: &mut [u32],
-    symbol_slots: &mut [u32],
-    opens: &mut [u32],
-    closes: &mut [u32],
-    syms: &mut [u32],
-) -> Report
-    requires ruled { Ruled (mode_of limits parts.now pair.now symbols.now) l.now }
-    requires lent { Lent limits.limit parts.now symbols.now part_slots.old symbol_slots.old opens.old
-        closes.old syms.old }
-    ensures { WrittenIn (mode_of limits parts.now pair.now symbols.now)
-        (holding_all l.now) work.old out.old result work.new out.new }
+) -> Result<usize, Refusal>
+    requires ruled { Ruled (mode_by tables.now) l.now }
+    requires of_parts { (0 < PART_SLOTS) × (PART_SLOTS ≤ 1048576) }
+    requires of_symbols { (0 < SYMBOL_SLOTS) × (SYMBOL_SLOTS ≤ 1048576) }
+    requires some_trees { (1 ≤ TREES) × (TREES ≤ 1048576) }
+    ensures { WrittenIn (mode_by tables.now) (holding_all l.now) work.old out.old result work.new out.new }
 {
-    build(limits.limit, parts, symbols, part_slots, symbol_slots);
-    write_built(
-        l,
-        limits,
-        parts,
-        pair,
-        symbols,
-        work,
-        out,
-        part_slots,
-        symbol_slots,
-        opens,
-        closes,
-        syms,
-    )
-}
-
-// The slots hold tables of at most 1,024 parts and 1,024 symbols at half load.
-fn write_small(
-    l: &[u32],
-    limits: Limits,
-    parts: &[u32],
-    pair: &[u32],
-    symbols: &[u32],
-    work: &mut [u32],
-    out: &mut [u8],
-) -> Report
-    requires { Ruled (mode_of limits parts.now pair.now symbols.now) l.now }
-    ensures { WrittenIn (mode_of limits parts.now pair.now symbols.now)
-        (holding_all l.now) work.old out.old result work.new out.new }
-{
-    let mut part_slots = [0u32; 2048];
-    let mut symbol_slots = [0u32; 2048];
-    let mut opens = [0u32; 1024];
-    let mut closes = [0u32; 1024];
-    let mut syms = [0u32; 1024];
-    write_with(
-        l,
-        limits,
-        parts,
-        pair,
-        symbols,
-        work,
-        out,
+    let mut part_slots = [0u32; PART_SLOTS];
+    let mut symbol_slots = [0u32; SYMBOL_SLOTS];
+    let mut opens = [0u32; TREES];
+    let mut closes = [0u32; TREES];
+    let mut syms = [0u32; TREES];
+    build(
+        tables.limits.limit,
+        tables.parts,
+        tables.symbols,
         &mut part_slots,
         &mut symbol_slots,
-        &mut opens,
-        &mut closes,
-        &mut syms,
-    )
-}
-
-// The same tables, for lists of more than 1,024 trees: of up to 32,768 the indices are found once.
-fn write_middle(
-    l: &[u32],
-    limits: Limits,
-    parts: &[u32],
-    pair: &[u32],
-    symbols: &[u32],
-    work: &mut [u32],
-    out: &mut [u8],
-) -> Report
-    requires { Ruled (mode_of limits parts.now pair.now symbols.now) l.now }
-    ensures { WrittenIn (mode_of limits parts.now pair.now symbols.now)
-        (holding_all l.now) work.old out.old result work.new out.new }
-{
-    let mut part_slots = [0u32; 2048];
-    let mut symbol_slots = [0u32; 2048];
-    let mut opens = [0u32; 32768];
-    let mut closes = [0u32; 32768];
-    let mut syms = [0u32; 32768];
-    write_with(
-        l,
-        limits,
-        parts,
-        pair,
-        symbols,
-        work,
-        out,
-        &mut part_slots,
-        &mut symbol_slots,
-        &mut opens,
-        &mut closes,
-        &mut syms,
-    )
-}
-
-// Tables of any size, within 1 MB of stack.
-fn write_large(
-    l: &[u32],
-    limits: Limits,
-    parts: &[u32],
-    pair: &[u32],
-    symbols: &[u32],
-    work: &mut [u32],
-    out: &mut [u8],
-) -> Report
-    requires { Ruled (mode_of limits parts.now pair.now symbols.now) l.now }
-    ensures { WrittenIn (mode_of limits parts.now pair.now symbols.now)
-        (holding_all l.now) work.old out.old result work.new out.new }
-{
-    let mut part_slots = [0u32; 65536];
-    let mut symbol_slots = [0u32; 131072];
-    let mut opens = [0u32; 8192];
-    let mut closes = [0u32; 8192];
-    let mut syms = [0u32; 8192];
-    write_with(
-        l,
-        limits,
-        parts,
-        pair,
-        symbols,
-        work,
-        out,
-        &mut part_slots,
-        &mut symbol_slots,
-        &mut opens,
-        &mut closes,
-        &mut syms,
-    )
+    );
+    let mut scratch = Scratch {
+        part_slots: &mut part_slots,
+        symbol_slots: &mut symbol_slots,
+        opens: &mut opens,
+        closes: &mut closes,
+        syms: &mut syms,
+    };
+    write_built(l, tables, work, out, &mut scratch)
 }
 
 // The words of 1,024 parts, of 1,024 trees.
@@ -335,51 +125,36 @@ const SMALL_PARTS: usize = 1024 * PART_WORDS;
 
 const SMALL_TREES: usize = 1024 * TREE_WORDS;
 
-// The arrays that the tables and the list need. They share one frame of less than 1 MB.
+// The arrays that the tables and the list need: those of any size, or slots for at most 1,024 parts and 1,024 symbols at
+// half load, and room for up to 32,768 trees, whose indices are then found once. They share one frame of less than 1 MB.
 fn write_by_size(
     l: &[u32],
-    limits: Limits,
-    parts: &[u32],
-    pair: &[u32],
-    symbols: &[u32],
+    tables: &Runs,
     work: &mut [u32],
     out: &mut [u8],
-) -> Report
-    requires { Ruled (mode_of limits parts.now pair.now symbols.now) l.now }
-    ensures { WrittenIn (mode_of limits parts.now pair.now symbols.now)
-        (holding_all l.now) work.old out.old result work.new out.new }
+) -> Result<usize, Refusal>
+    requires { Ruled (mode_by tables.now) l.now }
+    ensures { WrittenIn (mode_by tables.now) (holding_all l.now) work.old out.old result work.new out.new }
 {
-    if SMALL_PARTS < parts.len() {
-        return write_large(l, limits, parts, pair, symbols, work, out);
+    if SMALL_PARTS < tables.parts.len() || 1024 < tables.symbols.len() {
+        write_with::<65536, 131072, 8192>(l, tables, work, out)
+    } else if SMALL_TREES < l.len() {
+        write_with::<2048, 2048, 32768>(l, tables, work, out)
+    } else {
+        write_with::<2048, 2048, 1024>(l, tables, work, out)
     }
-    if 1024 < symbols.len() {
-        return write_large(l, limits, parts, pair, symbols, work, out);
-    }
-    if SMALL_TREES < l.len() {
-        return write_middle(l, limits, parts, pair, symbols, work, out);
-    }
-    write_small(l, limits, parts, pair, symbols, work, out)
 }
 
 // Row 5 for the root, whose parts are not looked for.
-fn write_ruled(
-    l: &[u32],
-    limits: Limits,
-    parts: &[u32],
-    pair: &[u32],
-    symbols: &[u32],
-    work: &mut [u32],
-    out: &mut [u8],
-) -> Report
-    requires within { Within (mode_of limits parts.now pair.now symbols.now) l.now }
+fn write_ruled(l: &[u32], tables: &Runs, work: &mut [u32], out: &mut [u8]) -> Result<usize, Refusal>
+    requires within { Within (mode_by tables.now) l.now }
     requires l_value { list_rules (holding_all l.now) ≡ passed }
-    ensures { WrittenIn (mode_of limits parts.now pair.now symbols.now)
-        (holding_all l.now) work.old out.old result work.new out.new }
+    ensures { WrittenIn (mode_by tables.now) (holding_all l.now) work.old out.old result work.new out.new }
 {
-    if !root_present(l, pair) {
-        return refuse(5);
+    if !root_present(l, tables.pair) {
+        return refuse(row::ABSENT);
     }
-    write_by_size(l, limits, parts, pair, symbols, work, out)
+    write_by_size(l, tables, work, out)
 }
 
 // Over a part table whose last two are the root's, behind rows 1 to 4, which the caller has asked or knows to be
@@ -390,7 +165,7 @@ pub fn write_own(
     symbols: &[u32],
     work: &mut [u32],
     out: &mut [u8],
-) -> Report
+) -> Result<usize, Refusal>
     requires symbols_value { (list_sized l.now && (own_tables parts.now symbols.now).sized) ≡ true }
     requires l_value { list_rules (holding_all l.now) ≡ passed }
     ensures { Written parts.now symbols.now (holding_all l.now)
@@ -398,7 +173,13 @@ pub fn write_own(
 {
     let limits = own_limits(parts.len() / PART_WORDS, symbols.len());
     let pair = &parts[PART_WORDS * limits.limit..];
-    write_ruled(l, limits, parts, pair, symbols, work, out)
+    let tables = Runs {
+        limits,
+        parts,
+        pair,
+        symbols,
+    };
+    write_ruled(l, &tables, work, out)
 }
 
 // Writes the buffer of a list over given tables. Answers how many bytes, or the first of rows 1 to 6 that it breaks.
@@ -408,20 +189,18 @@ pub fn encode_list(
     symbols: &[u32],
     work: &mut [u32],
     out: &mut [u8],
-) -> Report
+) -> Result<usize, Refusal>
     ensures { Written parts.now symbols.now l.now work.old
         out.old result work.new out.new }
 {
     if !list_sized(l) {
-        return refuse(1);
+        return refuse(row::SIZE);
     }
     if !tables_sized(parts, symbols) {
-        return refuse(1);
+        return refuse(row::SIZE);
     }
-    match list_rules(l) {
-        Verdict::Passed => write_own(l, parts, symbols, work, out),
-        Verdict::Refused(at) => Report::Refused(at),
-    }
+    list_rules(l)?;
+    write_own(l, parts, symbols, work, out)
 }
 
 // The same of a list whose root, where it is a subtree, is taken to hold all others, whatever count it has stored.
@@ -431,18 +210,16 @@ pub fn encode_holding(
     symbols: &[u32],
     work: &mut [u32],
     out: &mut [u8],
-) -> Report
+) -> Result<usize, Refusal>
     ensures { Written parts.now symbols.now (holding_all l.now)
         work.old out.old result work.new out.new }
 {
     if !list_sized(l) {
-        return refuse(1);
+        return refuse(row::SIZE);
     }
     if !tables_sized(parts, symbols) {
-        return refuse(1);
+        return refuse(row::SIZE);
     }
-    match list_rules_holding(l) {
-        Verdict::Passed => write_own(l, parts, symbols, work, out),
-        Verdict::Refused(at) => Report::Refused(at),
-    }
+    list_rules_holding(l)?;
+    write_own(l, parts, symbols, work, out)
 }

@@ -1,36 +1,16 @@
-use borrow.Author.Rules.{rules}
-use Rattle.root.proofs.RewriteReturns.{spans_cases}
+use mathlib.Core.Path.{ap, ◌∙◌}
+use Rattle.std.specs.Prelude.{Err}
+use Rattle.std.proofs.lemmas.Result.{err_from_is_err_and}
+use Rattle.root.proofs.RewriteReturns.{spans_two, spans_pass, spans_unread}
 use Rattle.root.proofs.spans_verdict.Goals as goal
 
-pub check_buffer-verdict-requires : goal.check_buffer-verdict-requires
-check_buffer-verdict-requires c = search (rules, spans_cases)
+pub returns-in_err-check_buffer : goal.returns-in_err-check_buffer
+returns-in_err-check_buffer c =
+    let p = err_from_is_err_and c.from_residual.result c.from_residual.ensures.1 in
+    spans_unread _ _ _ _ _ c.check_buffer.ensures _ c.in_err-check_buffer.was _ _ _ (p.1 ∙ ap Err p.2)
 
-pub enum_told-1 : goal.enum_told-1
-enum_told-1 c = search (rules, spans_cases)
+pub returns-then-not-both_fit : goal.returns-then-not-both_fit
+returns-then-not-both_fit c = spans_two _ _ _ _ _ c.check_buffer.ensures _ c.in_ok-check_buffer.was _ _ _ c.both_fit.ensures _ c.if-not-both_fit.true c.refused.ensures
 
-pub enum_told-in-Passed : goal.enum_told-in-Passed
-enum_told-in-Passed c = search (rules, spans_cases)
-
-pub range_fits-requires : goal.range_fits-requires
-range_fits-requires c = search (rules, spans_cases)
-
-pub refused-requires : goal.refused-requires
-refused-requires c = search (rules, spans_cases)
-
-pub returns-then-not-range_fits : goal.returns-then-not-range_fits
-returns-then-not-range_fits c = search (rules, spans_cases)
-
-pub range_fits-requires-in-Passed : goal.range_fits-requires-in-Passed
-range_fits-requires-in-Passed c = search (rules, spans_cases)
-
-pub refused-requires-then-not-range_fits-2 : goal.refused-requires-then-not-range_fits-2
-refused-requires-then-not-range_fits-2 c = search (rules, spans_cases)
-
-pub returns-then-not-range_fits-2 : goal.returns-then-not-range_fits-2
-returns-then-not-range_fits-2 c = search (rules, spans_cases)
-
-pub returns-in-Refused : goal.returns-in-Refused
-returns-in-Refused c = search (rules, spans_cases)
-
-pub returns-else-not-range_fits-2 : goal.returns-else-not-range_fits-2
-returns-else-not-range_fits-2 c = search (rules, spans_cases)
+pub returns : goal.returns
+returns c = spans_pass _ _ _ _ _ c.check_buffer.ensures _ c.in_ok-check_buffer.was _ _ _ c.both_fit.ensures c.if-not-both_fit.false

@@ -17,8 +17,8 @@ enum_told-in-Leaf c = search (rules, words_fit_cases)
 pub enum_told-in-Subtree : goal.enum_told-in-Subtree
 enum_told-in-Subtree c = search (rules, words_fit_cases)
 
-pub returns-in-Bad : goal.returns-in-Bad
-returns-in-Bad c = search (rules, words_fit_cases)
+pub returns-in-Err : goal.returns-in-Err
+returns-in-Err c = search (rules, words_fit_cases)
 
 pub returns-in-Leaf : goal.returns-in-Leaf
 returns-in-Leaf c = search (rules, words_fit_cases)

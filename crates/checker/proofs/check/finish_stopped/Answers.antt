@@ -1,42 +1,30 @@
+use mathlib.Core.Path.{ap, ◌∙◌}
 use borrow.Author.Rules.{rules}
-use Rattle.checker.proofs.CheckReturns.{stop_cases}
+use Rattle.std.specs.Prelude.{Err}
+use Rattle.std.proofs.lemmas.Result.{err_from_is_err_and}
+use Rattle.format.specs.Buffer.{raw_shape}
+use Rattle.checker.specs.Glance.{reader_of}
+use Rattle.checker.proofs.CheckReturns.{stop_cases, stop_later, stop_left, stop_here}
 use Rattle.checker.proofs.check.finish_stopped.Goals as goal
 
-pub enum_known-stop : goal.enum_known-stop
-enum_known-stop c = search (rules, stop_cases)
+pub read_on-requires-clause-n_le_trees : goal.read_on-requires-clause-n_le_trees
+read_on-requires-clause-n_le_trees c = search (rules, stop_cases)
 
-pub refused-requires : goal.refused-requires
-refused-requires c = search (rules, stop_cases)
-
-pub enum_known-stop-in-Unnested-1 : goal.enum_known-stop-in-Unnested-1
-enum_known-stop-in-Unnested-1 c = search (rules, stop_cases)
-
-pub read_on-ending-requires : goal.read_on-ending-requires
-read_on-ending-requires c = search (rules, stop_cases)
-
-pub enum_known-ending : goal.enum_known-ending
-enum_known-ending c = search (rules, stop_cases)
-
-pub refused-requires-in-Unread-ending : goal.refused-requires-in-Unread-ending
-refused-requires-in-Unread-ending c = search (rules, stop_cases)
-
-pub enum_known-ending-in-End-1 : goal.enum_known-ending-in-End-1
-enum_known-ending-in-End-1 c = search (rules, stop_cases)
-
-pub refused-requires-then-place-b : goal.refused-requires-then-place-b
-refused-requires-then-place-b c = search (rules, stop_cases)
-
-pub returns-then-place-b : goal.returns-then-place-b
-returns-then-place-b c = search (rules, stop_cases)
-
-pub refused-requires-in-End : goal.refused-requires-in-End
-refused-requires-in-End c = search (rules, stop_cases)
+pub read_on-requires-clause-at_place : goal.read_on-requires-clause-at_place
+read_on-requires-clause-at_place c = search (rules, stop_cases)
 
 pub returns-in-Unread : goal.returns-in-Unread
 returns-in-Unread c = search (rules, stop_cases)
 
-pub returns-in-Unread-ending : goal.returns-in-Unread-ending
-returns-in-Unread-ending c = search (rules, stop_cases)
+pub returns-in_err-place-in-Unnested : goal.returns-in_err-place-in-Unnested
+returns-in_err-place-in-Unnested c =
+    let p = err_from_is_err_and c.from_residual.result c.from_residual.ensures.1 in
+    stop_later raw_shape (reader_of c.args.b.now c.args.sizes) _ c.requires _ _ c.in-Unnested.is _ c.read_on.ensures _ c.in_err-place-in-Unnested.was _ (p.1 ∙ ap Err p.2)
+
+pub returns-then-place-b : goal.returns-then-place-b
+returns-then-place-b c =
+    stop_left raw_shape (reader_of c.args.b.now c.args.sizes) _ c.requires _ _ c.in-Unnested.is _ c.read_on.ensures _ c.in_ok-place-in-Unnested.was _ _ c.refused.ensures (search rules) (search rules)
 
 pub returns-else-place-b : goal.returns-else-place-b
-returns-else-place-b c = search (rules, stop_cases)
+returns-else-place-b c =
+    stop_here raw_shape (reader_of c.args.b.now c.args.sizes) _ c.requires _ _ c.in-Unnested.is _ c.read_on.ensures _ c.in_ok-place-in-Unnested.was (search rules)

@@ -1,33 +1,11 @@
-use borrow.Author.Rules.{rules}
-use Rattle.cursor.proofs.LookReturns.{look_fronts}
+use Rattle.std.proofs.lemmas.Result.{err_from_is_err_and}
+use Rattle.cursor.proofs.LookReturns.{peeks_1, peeks_front}
 use Rattle.cursor.proofs.look.peek_two_leaves.Goals as goal
 
-pub sized-requires : goal.sized-requires
-sized-requires c = search (rules, look_fronts)
-
-pub refused-requires : goal.refused-requires
-refused-requires c = search (rules, look_fronts)
-
-pub no_leaves-requires : goal.no_leaves-requires
-no_leaves-requires c = search (rules, look_fronts)
-
-pub returns-then-not-sized : goal.returns-then-not-sized
-returns-then-not-sized c = search (rules, look_fronts)
-
-pub own_limits-limits-requires : goal.own_limits-limits-requires
-own_limits-limits-requires c = search (rules, look_fronts)
-
-pub overflow_mul-pair : goal.overflow_mul-pair
-overflow_mul-pair c = search (rules, look_fronts)
-
-pub offset_bounds-parts-limits : goal.offset_bounds-parts-limits
-offset_bounds-parts-limits c = search (rules, look_fronts)
-
-pub slice_bounds-pair-count : goal.slice_bounds-pair-count
-slice_bounds-pair-count c = search (rules, look_fronts)
-
-pub peek_two_leaves_in-requires : goal.peek_two_leaves_in-requires
-peek_two_leaves_in-requires c = search (rules, look_fronts)
+pub returns-in_err-buffer : goal.returns-in_err-buffer
+returns-in_err-buffer c =
+    let p = err_from_is_err_and c.from_residual.result c.from_residual.ensures.1 in
+    rw (p.1, p.2) (peeks_1 _ _ _ _ _ _ _ _ _ c.in_err-buffer.ensures)
 
 pub returns : goal.returns
-returns c = search (rules, look_fronts)
+returns c = peeks_front _ _ _ _ _ _ _ _ _ c.in_ok-buffer.ensures _ c.peek_two_leaves_in.ensures

@@ -1,30 +1,11 @@
-use borrow.Author.Rules.{rules}
-use Rattle.cursor.proofs.LookReturns.{look_fronts}
+use Rattle.std.proofs.lemmas.Result.{err_from_is_err_and}
+use Rattle.cursor.proofs.LookReturns.{tells_1, tells_front}
 use Rattle.cursor.proofs.look.token_tree.Goals as goal
 
-pub sized-requires : goal.sized-requires
-sized-requires c = search (rules, look_fronts)
-
-pub refused-requires : goal.refused-requires
-refused-requires c = search (rules, look_fronts)
-
-pub returns-then-not-sized : goal.returns-then-not-sized
-returns-then-not-sized c = search (rules, look_fronts)
-
-pub own_limits-limits-requires : goal.own_limits-limits-requires
-own_limits-limits-requires c = search (rules, look_fronts)
-
-pub overflow_mul-pair : goal.overflow_mul-pair
-overflow_mul-pair c = search (rules, look_fronts)
-
-pub offset_bounds-parts-limits : goal.offset_bounds-parts-limits
-offset_bounds-parts-limits c = search (rules, look_fronts)
-
-pub slice_bounds-pair-count : goal.slice_bounds-pair-count
-slice_bounds-pair-count c = search (rules, look_fronts)
-
-pub token_tree_in-requires : goal.token_tree_in-requires
-token_tree_in-requires c = search (rules, look_fronts)
+pub returns-in_err-buffer : goal.returns-in_err-buffer
+returns-in_err-buffer c =
+    let p = err_from_is_err_and c.from_residual.result c.from_residual.ensures.1 in
+    rw (p.1, p.2) (tells_1 _ _ _ _ _ _ _ _ _ c.in_err-buffer.ensures)
 
 pub returns : goal.returns
-returns c = search (rules, look_fronts)
+returns c = tells_front _ _ _ _ _ _ _ _ _ c.in_ok-buffer.ensures _ c.token_tree_in.ensures

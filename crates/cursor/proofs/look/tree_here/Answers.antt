@@ -1,24 +1,8 @@
-use borrow.Author.Rules.{rules}
-use Rattle.cursor.proofs.LookReturns.{tells_cases}
+use Rattle.std.proofs.lemmas.Result.{err_from_is_err_and}
+use Rattle.cursor.proofs.LookReturns.{here_refused}
 use Rattle.cursor.proofs.look.tree_here.Goals as goal
 
-pub decode_in-read-requires : goal.decode_in-read-requires
-decode_in-read-requires c = search (rules, tells_cases)
-
-pub enum_known-read : goal.enum_known-read
-enum_known-read c = search (rules, tells_cases)
-
-pub refused-requires : goal.refused-requires
-refused-requires c = search (rules, tells_cases)
-
-pub enum_known-read-in-Got-1 : goal.enum_known-read-in-Got-1
-enum_known-read-in-Got-1 c = search (rules, tells_cases)
-
-pub loose_at-requires : goal.loose_at-requires
-loose_at-requires c = search (rules, tells_cases)
-
-pub returns-in-Refused : goal.returns-in-Refused
-returns-in-Refused c = search (rules, tells_cases)
-
-pub returns-in-Got : goal.returns-in-Got
-returns-in-Got c = search (rules, tells_cases)
+pub returns-in_err-read : goal.returns-in_err-read
+returns-in_err-read c =
+    let p = err_from_is_err_and c.from_residual.result c.from_residual.ensures.1 in
+    rw (p.1, p.2) (here_refused _ _ _ _ c.in_err-read.ensures)

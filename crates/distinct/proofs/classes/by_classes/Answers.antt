@@ -5,17 +5,14 @@ use Rattle.distinct.proofs.classes.by_classes.Goals as goal
 pub loop-classes-init : goal.loop-classes-init
 loop-classes-init c = search (rules, by_classes_cases)
 
-pub by_class-p-requires : goal.by_class-p-requires
-by_class-p-requires c = search (rules, by_classes_cases)
+pub by_class-requires : goal.by_class-requires
+by_class-requires c = search (rules, by_classes_cases)
 
-pub returns-then-p-lt-UNKNOWN : goal.returns-then-p-lt-UNKNOWN
-returns-then-p-lt-UNKNOWN c = search (rules, by_classes_cases)
+pub returns-in-Some : goal.returns-in-Some
+returns-in-Some c = search (rules, by_classes_cases)
 
 pub overflow_mul-classes : goal.overflow_mul-classes
 overflow_mul-classes c = search (rules, by_classes_cases)
-
-pub loop-classes-smaller : goal.loop-classes-smaller
-loop-classes-smaller c = search (rules, by_classes_cases)
 
 pub loop-classes-preserved : goal.loop-classes-preserved
 loop-classes-preserved c = search (rules, by_classes_cases)

@@ -5,17 +5,11 @@ use Rattle.distinct.proofs.classes.count_by_classes.Goals as goal
 pub loop-classes-init : goal.loop-classes-init
 loop-classes-init c = search (rules, number_cases)
 
-pub count_by_class-p-requires : goal.count_by_class-p-requires
-count_by_class-p-requires c = search (rules, number_cases)
-
-pub returns-then-p-lt-UNKNOWN : goal.returns-then-p-lt-UNKNOWN
-returns-then-p-lt-UNKNOWN c = search (rules, number_cases)
+pub count_by_class-requires : goal.count_by_class-requires
+count_by_class-requires c = search (rules, number_cases)
 
 pub overflow_mul-classes : goal.overflow_mul-classes
 overflow_mul-classes c = search (rules, number_cases)
-
-pub loop-classes-smaller : goal.loop-classes-smaller
-loop-classes-smaller c = search (rules, number_cases)
 
 pub loop-classes-preserved : goal.loop-classes-preserved
 loop-classes-preserved c = search (rules, number_cases)

@@ -1,21 +1,9 @@
-use borrow.Author.Rules.{rules}
-use Rattle.distinct.proofs.CountReturns.{room_cases}
+use mathlib.Core.Path.{◌∙◌}
+use Rattle.distinct.proofs.CountReturns.{key_fits, room_most}
 use Rattle.distinct.proofs.count.has_room.Goals as goal
 
-pub key_count-n-requires : goal.key_count-n-requires
-key_count-n-requires c = search (rules, room_cases)
-
-pub is_ample-requires : goal.is_ample-requires
-is_ample-requires c = search (rules, room_cases)
+pub is_ample-requires-else-is_ample : goal.is_ample-requires-else-is_ample
+is_ample-requires-else-is_ample c = (key_fits _ _ _ _ c.counts.ensures c.count.ensures c.args.keys.now.few, c.requires)
 
 pub returns-then-is_ample : goal.returns-then-is_ample
-returns-then-is_ample c = search (rules, room_cases)
-
-pub counts-p-requires : goal.counts-p-requires
-counts-p-requires c = search (rules, room_cases)
-
-pub is_ample-requires-2 : goal.is_ample-requires-2
-is_ample-requires-2 c = search (rules, room_cases)
-
-pub returns : goal.returns
-returns c = search (rules, room_cases)
+returns-then-is_ample c = c.if-is_ample.true ∙ room_most _ _ _ _ _ _ _ c.count.ensures c.is_ample.ensures c.if-is_ample.true

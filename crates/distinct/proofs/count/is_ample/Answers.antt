@@ -1,18 +1,12 @@
-use borrow.Author.Rules.{rules}
-use Rattle.distinct.proofs.CountReturns.{room_cases}
+use native.Mathlib.Omega.{arith}
+use Rattle.distinct.specs.Count.{ample}
+use Rattle.std.proofs.lemmas.Grind.{common_steps}
 use Rattle.distinct.proofs.count.is_ample.Goals as goal
 
-pub place_in-requires : goal.place_in-requires
-place_in-requires c = search (rules, room_cases)
+pub returns-then-place_in-more : goal.returns-then-place_in-more
+unfolding ample
+returns-then-place_in-more c = grind (arith, common_steps)
 
-pub overflow_add-place_in : goal.overflow_add-place_in
-overflow_add-place_in c = search (rules, room_cases)
-
-pub returns-then-words-place_in : goal.returns-then-words-place_in
-returns-then-words-place_in c = search (rules, room_cases)
-
-pub returns-then-tallies-p : goal.returns-then-tallies-p
-returns-then-tallies-p c = search (rules, room_cases)
-
-pub returns : goal.returns
-returns c = search (rules, room_cases)
+pub returns-else-place_in-more : goal.returns-else-place_in-more
+unfolding ample
+returns-else-place_in-more c = grind (arith, common_steps)

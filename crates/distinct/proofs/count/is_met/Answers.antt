@@ -11,12 +11,6 @@ is_same-requires c = search (rules, fresh_cases)
 pub returns-then-is_same : goal.returns-then-is_same
 returns-then-is_same c = search (rules, fresh_cases)
 
-pub overflow_add-u : goal.overflow_add-u
-overflow_add-u c = search (rules, fresh_cases)
-
-pub loop-u-smaller : goal.loop-u-smaller
-loop-u-smaller c = search (rules, fresh_cases)
-
 pub loop-u-preserved : goal.loop-u-preserved
 loop-u-preserved c = search (rules, fresh_cases)
 

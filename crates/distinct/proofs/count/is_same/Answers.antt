@@ -1,15 +1,12 @@
-use borrow.Author.Rules.{rules}
-use Rattle.distinct.proofs.CountReturns.{fresh_cases}
+use native.Mathlib.Omega.{arith}
+use Rattle.distinct.specs.Count.{same_key}
+use Rattle.std.proofs.lemmas.Grind.{common_steps}
 use Rattle.distinct.proofs.count.is_same.Goals as goal
 
-pub live-requires : goal.live-requires
-live-requires c = search (rules, fresh_cases)
+pub returns-then-is_live : goal.returns-then-is_live
+unfolding same_key
+returns-then-is_live c = grind (arith, common_steps)
 
-pub alike-requires : goal.alike-requires
-alike-requires c = search (rules, fresh_cases)
-
-pub returns-then-live : goal.returns-then-live
-returns-then-live c = search (rules, fresh_cases)
-
-pub returns : goal.returns
-returns c = search (rules, fresh_cases)
+pub returns-else-is_live : goal.returns-else-is_live
+unfolding same_key
+returns-else-is_live c = grind (arith, common_steps)

@@ -11,23 +11,14 @@ offset_bounds-table-s c = search (rules, rank_cases)
 pub bounds-table-s : goal.bounds-table-s
 bounds-table-s c = search (rules, rank_cases)
 
-pub size-e-requires : goal.size-e-requires
-size-e-requires c = search (rules, rank_cases)
-
 pub returns-then-e-eq0 : goal.returns-then-e-eq0
 returns-then-e-eq0 c = search (rules, rank_cases)
-
-pub overflow_sub-e : goal.overflow_sub-e
-overflow_sub-e c = search (rules, rank_cases)
 
 pub offset_bounds-firsts-e : goal.offset_bounds-firsts-e
 offset_bounds-firsts-e c = search (rules, rank_cases)
 
 pub bounds-firsts-e : goal.bounds-firsts-e
 bounds-firsts-e c = search (rules, rank_cases)
-
-pub size-u-requires : goal.size-u-requires
-size-u-requires c = search (rules, rank_cases)
 
 pub alike-requires : goal.alike-requires
 alike-requires c = search (rules, rank_cases)
@@ -40,12 +31,6 @@ returns-then-alike c = search (rules, rank_cases)
 
 pub next_slot-s-requires : goal.next_slot-s-requires
 next_slot-s-requires c = search (rules, rank_cases)
-
-pub overflow_sub-left : goal.overflow_sub-left
-overflow_sub-left c = search (rules, rank_cases)
-
-pub loop-left-smaller : goal.loop-left-smaller
-loop-left-smaller c = search (rules, rank_cases)
 
 pub loop-left-preserved : goal.loop-left-preserved
 loop-left-preserved c = search (rules, rank_cases)

@@ -8,20 +8,11 @@ loop-e-init c = search (rules, find_cases)
 pub get_at-requires : goal.get_at-requires
 get_at-requires c = search (rules, find_cases)
 
-pub size-requires : goal.size-requires
-size-requires c = search (rules, find_cases)
-
 pub alike-requires : goal.alike-requires
 alike-requires c = search (rules, find_cases)
 
 pub returns-then-alike : goal.returns-then-alike
 returns-then-alike c = search (rules, find_cases)
-
-pub overflow_add-e : goal.overflow_add-e
-overflow_add-e c = search (rules, find_cases)
-
-pub loop-e-smaller : goal.loop-e-smaller
-loop-e-smaller c = search (rules, find_cases)
 
 pub loop-e-preserved : goal.loop-e-preserved
 loop-e-preserved c = search (rules, find_cases)

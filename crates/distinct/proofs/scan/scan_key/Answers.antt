@@ -1,27 +1,16 @@
+use mathlib.Core.Path.{refl}
 use borrow.Author.Rules.{rules}
-use Rattle.distinct.proofs.ScanReturns.{scan_one_cases}
+use Rattle.distinct.proofs.ScanReturns.{scan_one_cases, scan_count, scan_found, scan_new}
 use Rattle.distinct.proofs.scan.scan_key.Goals as goal
 
-pub find-e-requires : goal.find-e-requires
-find-e-requires c = search (rules, scan_one_cases)
+pub find-requires : goal.find-requires
+find-requires c = search (rules, scan_one_cases)
 
 pub raise-requires : goal.raise-requires
-raise-requires c = search (rules, scan_one_cases)
+raise-requires c = scan_count _ _ _ _ _ _ c.requires.gathered c.requires.v_bound.0 c.requires.room c.requires.v_value _ c.in-Some.ensures.0 c.args.keys.now.few
 
-pub returns-then-e-p : goal.returns-then-e-p
-returns-then-e-p c = search (rules, scan_one_cases)
+pub returns-in-Some : goal.returns-in-Some
+returns-in-Some c = scan_found _ _ _ _ _ _ c.requires.gathered c.requires.v_bound.0 c.requires.room c.requires.v_value _ _ c.in-Some.ensures.0 c.in-Some.ensures.1 c.raise.ensures
 
-pub overflow_add-next : goal.overflow_add-next
-overflow_add-next c = search (rules, scan_one_cases)
-
-pub overflow_cast-v : goal.overflow_cast-v
-overflow_cast-v c = search (rules, scan_one_cases)
-
-pub set_at-requires : goal.set_at-requires
-set_at-requires c = search (rules, scan_one_cases)
-
-pub set_at-requires-2 : goal.set_at-requires-2
-set_at-requires-2 c = search (rules, scan_one_cases)
-
-pub returns : goal.returns
-returns c = search (rules, scan_one_cases)
+pub returns-in-None : goal.returns-in-None
+returns-in-None c = scan_new _ _ _ _ _ _ c.requires.gathered c.requires.v_bound.0 c.requires.room c.requires.v_value c.in-None.ensures _ _ _ refl c.set_at.ensures c.set_at-in-None.ensures

@@ -8,9 +8,6 @@ overflow_mul-v c = search (rules, choose_cases)
 pub choose-k-requires : goal.choose-k-requires
 choose-k-requires c = search (rules, choose_cases)
 
-pub overflow_add-v : goal.overflow_add-v
-overflow_add-v c = search (rules, choose_cases)
-
 pub choose-requires : goal.choose-requires
 choose-requires c = search (rules, choose_cases)
 

@@ -1,27 +1,28 @@
+use native.Mathlib.Omega.{arith}
 use borrow.Author.Rules.{rules}
-use Rattle.distinct.proofs.SelectReturns.{select_cases}
+use Rattle.distinct.proofs.SelectReturns.{select_cases, number_fits}
 use Rattle.distinct.proofs.select.select.Goals as goal
 
-pub number-requires : goal.number-requires
-number-requires c = search (rules, select_cases)
+pub number-from-requires : goal.number-from-requires
+number-from-requires c = number_fits _ _ _ _ c.requires.t_le_end.0 c.requires.t_le_end.1 c.args.keys.now.few
 
-pub number-requires-then-classes-gt1 : goal.number-requires-then-classes-gt1
-number-requires-then-classes-gt1 c = search (rules, select_cases)
+pub number-to-requires : goal.number-to-requires
+number-to-requires c = number_fits _ _ _ _ (omega arith) c.requires.t_le_end.1 c.args.keys.now.few
 
-pub select_each-requires : goal.select_each-requires
-select_each-requires c = search (rules, select_cases)
+pub select_each-requires-clause-from_le_to : goal.select_each-requires-clause-from_le_to
+select_each-requires-clause-from_le_to c = search (rules, select_cases)
 
-pub returns-then-classes-gt1 : goal.returns-then-classes-gt1
-returns-then-classes-gt1 c = search (rules, select_cases)
+pub select_each-requires-clause-to_bound : goal.select_each-requires-clause-to_bound
+select_each-requires-clause-to_bound c = search (rules, select_cases)
 
-pub select_each-requires-then-symbols : goal.select_each-requires-then-symbols
-select_each-requires-then-symbols c = search (rules, select_cases)
+pub select_each-requires-then-keys-clause-from_le_to : goal.select_each-requires-then-keys-clause-from_le_to
+select_each-requires-then-keys-clause-from_le_to c = search (rules, select_cases)
 
-pub returns-then-symbols : goal.returns-then-symbols
-returns-then-symbols c = search (rules, select_cases)
+pub returns-then-keys : goal.returns-then-keys
+returns-then-keys c = search (rules, select_cases)
 
-pub select_parts-requires : goal.select_parts-requires
-select_parts-requires c = search (rules, select_cases)
+pub select_parts-requires-clause-t_le_end : goal.select_parts-requires-clause-t_le_end
+select_parts-requires-clause-t_le_end c = search (rules, select_cases)
 
 pub returns : goal.returns
 returns c = search (rules, select_cases)

@@ -8,12 +8,6 @@ loop-v-init c = search (rules, choose_cases)
 pub choose-m-requires : goal.choose-m-requires
 choose-m-requires c = search (rules, choose_cases)
 
-pub overflow_add-v : goal.overflow_add-v
-overflow_add-v c = search (rules, choose_cases)
-
-pub loop-v-smaller : goal.loop-v-smaller
-loop-v-smaller c = search (rules, choose_cases)
-
 pub loop-v-preserved : goal.loop-v-preserved
 loop-v-preserved c = search (rules, choose_cases)
 

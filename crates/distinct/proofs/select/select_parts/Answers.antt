@@ -11,12 +11,6 @@ loop-i-init c = search (rules, choose_cases)
 pub choose_two-m-requires : goal.choose_two-m-requires
 choose_two-m-requires c = search (rules, choose_cases)
 
-pub overflow_add-i : goal.overflow_add-i
-overflow_add-i c = search (rules, choose_cases)
-
-pub loop-i-smaller : goal.loop-i-smaller
-loop-i-smaller c = search (rules, choose_cases)
-
 pub loop-i-preserved : goal.loop-i-preserved
 loop-i-preserved c = search (rules, choose_cases)
 

@@ -2,8 +2,5 @@ use borrow.Author.Rules.{rules}
 use Rattle.encode.proofs.EncodePut.{piece_cases}
 use Rattle.encode.proofs.encode.put_symbol.Goals as goal
 
-pub encode_symbol-requires : goal.encode_symbol-requires
-encode_symbol-requires c = search (rules, piece_cases)
-
 pub returns : goal.returns
 returns c = search (rules, piece_cases)

@@ -4,6 +4,3 @@ use Rattle.encode.proofs.encode.put_top.Goals as goal
 
 pub put_root-requires : goal.put_root-requires
 put_root-requires c = search (rules, root_cases)
-
-pub returns : goal.returns
-returns c = search (rules, root_cases)

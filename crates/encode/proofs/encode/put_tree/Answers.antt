@@ -2,26 +2,14 @@ use borrow.Author.Rules.{rules}
 use Rattle.encode.proofs.EncodeTree.{passed_cases}
 use Rattle.encode.proofs.encode.put_tree.Goals as goal
 
-pub enum_known-tree : goal.enum_known-tree
-enum_known-tree c = search (rules, passed_cases)
-
 pub put_punct-requires : goal.put_punct-requires
 put_punct-requires c = search (rules, passed_cases)
-
-pub enum_known-tree-in-Ident-1 : goal.enum_known-tree-in-Ident-1
-enum_known-tree-in-Ident-1 c = search (rules, passed_cases)
 
 pub put_ident-requires : goal.put_ident-requires
 put_ident-requires c = search (rules, passed_cases)
 
-pub enum_known-tree-in-Literal-1 : goal.enum_known-tree-in-Literal-1
-enum_known-tree-in-Literal-1 c = search (rules, passed_cases)
-
 pub put_literal-requires : goal.put_literal-requires
 put_literal-requires c = search (rules, passed_cases)
-
-pub enum_known-tree-in-Subtree-1 : goal.enum_known-tree-in-Subtree-1
-enum_known-tree-in-Subtree-1 c = search (rules, passed_cases)
 
 pub put_subtree-requires : goal.put_subtree-requires
 put_subtree-requires c = search (rules, passed_cases)

@@ -8,12 +8,6 @@ loop-k-init c = search (rules, emit_cases)
 pub emit_one-requires : goal.emit_one-requires
 emit_one-requires c = search (rules, emit_cases)
 
-pub overflow_add-k : goal.overflow_add-k
-overflow_add-k c = search (rules, emit_cases)
-
-pub loop-k-smaller : goal.loop-k-smaller
-loop-k-smaller c = search (rules, emit_cases)
-
 pub loop-k-preserved : goal.loop-k-preserved
 loop-k-preserved c = search (rules, emit_cases)
 

@@ -1,12 +1,14 @@
-use borrow.Author.Rules.{rules}
 use Rattle.entries.proofs.LargeReturns.{made_fits}
 use Rattle.entries.proofs.table.make_table.Goals as goal
 
-pub key_count-n-requires : goal.key_count-n-requires
-key_count-n-requires c = search (rules, made_fits)
+pub returns-in-Some-clause-upper_bound : goal.returns-in-Some-clause-upper_bound
+returns-in-Some-clause-upper_bound c = made_fits _ _ _ c.args.keys.now.few _ _ _ _ c.in-Some.ensures
 
-pub tries-requires : goal.tries-requires
-tries-requires c = search (rules, made_fits)
+pub returns-in-Some-table_in-clause-upper_bound : goal.returns-in-Some-table_in-clause-upper_bound
+returns-in-Some-table_in-clause-upper_bound c = made_fits _ _ _ c.args.keys.now.few _ _ _ _ c.in-Some-table_in.ensures
 
-pub returns : goal.returns
-returns c = search (rules, made_fits)
+pub returns-in-Some-table_in-2-clause-upper_bound : goal.returns-in-Some-table_in-2-clause-upper_bound
+returns-in-Some-table_in-2-clause-upper_bound c = made_fits _ _ _ c.args.keys.now.few _ _ _ _ c.in-Some-table_in-2.ensures
+
+pub returns-clause-upper_bound : goal.returns-clause-upper_bound
+returns-clause-upper_bound c = made_fits _ _ _ c.args.keys.now.few _ _ _ _ c.large.ensures

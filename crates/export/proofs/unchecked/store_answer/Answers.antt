@@ -1,46 +1,28 @@
+use mathlib.Core.Path.{◌≡◌, ap, ◌∙◌}
+use Rattle.std.specs.Prelude.{Ok}
+use Rattle.cursor.specs.declared.plan.Reply.TheVariants as kinds
 use borrow.Author.Rules.{rules}
-use Rattle.export.proofs.CursorCases.{cursor_cases}
+use Rattle.export.proofs.CursorCases.{answer_none, answer_done, answer_tree, cursor_cases}
 use Rattle.export.proofs.StoreCases.{store_cases}
 use Rattle.export.proofs.unchecked.store_answer.Goals as goal
 
-pub enum_known-answer : goal.enum_known-answer
-enum_known-answer c = search (rules, cursor_cases, store_cases)
+pub returns-in-Err : goal.returns-in-Err
+returns-in-Err c = search (rules, cursor_cases, store_cases)
 
-pub refused_code-requires : goal.refused_code-requires
-refused_code-requires c = search (rules, cursor_cases, store_cases)
+pub returns-in-Ok-None : goal.returns-in-Ok-None
+returns-in-Ok-None c =
+    let e : c.args.answer ≡ Ok c.in-Ok-None.field-0 = c.in-Ok-None.is in
+    let d : c.in-Ok-None.field-0 ≡ kinds.None = rw e at c.in-Ok-None.field-0-is in
+    answer_none _ _ _ _ _ c.store_state.ensures (e ∙ ap Ok d)
 
-pub enum_told-1 : goal.enum_told-1
-enum_told-1 c = search (rules, cursor_cases, store_cases)
+pub returns-in-Ok-Done : goal.returns-in-Ok-Done
+returns-in-Ok-Done c =
+    let e : c.args.answer ≡ Ok c.in-Ok-Done.field-0 = c.in-Ok-Done.is in
+    let d : c.in-Ok-Done.field-0 ≡ kinds.Done = rw e at c.in-Ok-Done.field-0-is in
+    answer_done _ _ _ _ _ c.store_state-in-Ok-Done.ensures (e ∙ ap Ok d)
 
-pub store_state-requires : goal.store_state-requires
-store_state-requires c = search (rules, cursor_cases, store_cases)
-
-pub enum_told-in-Done : goal.enum_told-in-Done
-enum_told-in-Done c = search (rules, cursor_cases, store_cases)
-
-pub store_state-requires-in-Done : goal.store_state-requires-in-Done
-store_state-requires-in-Done c = search (rules, cursor_cases, store_cases)
-
-pub enum_known-answer-in-Tree-1 : goal.enum_known-answer-in-Tree-1
-enum_known-answer-in-Tree-1 c = search (rules, cursor_cases, store_cases)
-
-pub store_state-requires-in-Tree : goal.store_state-requires-in-Tree
-store_state-requires-in-Tree c = search (rules, cursor_cases, store_cases)
-
-pub tree_words-requires : goal.tree_words-requires
-tree_words-requires c = search (rules, cursor_cases, store_cases)
-
-pub store_reported-requires : goal.store_reported-requires
-store_reported-requires c = search (rules, cursor_cases, store_cases)
-
-pub returns-in-Refused : goal.returns-in-Refused
-returns-in-Refused c = search (rules, cursor_cases, store_cases)
-
-pub returns-in-None : goal.returns-in-None
-returns-in-None c = search (rules, cursor_cases, store_cases)
-
-pub returns-in-Done : goal.returns-in-Done
-returns-in-Done c = search (rules, cursor_cases, store_cases)
-
-pub returns-in-Tree : goal.returns-in-Tree
-returns-in-Tree c = search (rules, cursor_cases, store_cases)
+pub returns-in-Ok-Tree : goal.returns-in-Ok-Tree
+returns-in-Ok-Tree c =
+    let e : c.args.answer ≡ Ok c.in-Ok-Tree.field-0 = c.in-Ok-Tree.is in
+    let d : c.in-Ok-Tree.field-0 ≡ kinds.Tree c.in-Ok-Tree.read = rw e at c.in-Ok-Tree.field-0-is in
+    answer_tree _ _ _ _ _ c.store_state-in-Ok-Tree.ensures _ _ _ (e ∙ ap Ok d) c.tree_words.ensures c.store_reported.ensures

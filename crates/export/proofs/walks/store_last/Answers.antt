@@ -1,34 +1,21 @@
+use mathlib.Core.Path.{◌≡◌, ap, ◌∙◌}
+use Rattle.std.specs.Prelude.{Ok, Some, None}
 use borrow.Author.Rules.{rules}
-use Rattle.export.proofs.StepCases.{step_cases}
+use Rattle.export.proofs.StepCases.{last_none, last_some, step_cases}
 use Rattle.export.proofs.StoreCases.{store_cases}
 use Rattle.export.proofs.walks.store_last.Goals as goal
 
-pub enum_known-last : goal.enum_known-last
-enum_known-last c = search (rules, step_cases, store_cases)
+pub returns-in-Err : goal.returns-in-Err
+returns-in-Err c = search (rules, step_cases, store_cases)
 
-pub refused_code-requires : goal.refused_code-requires
-refused_code-requires c = search (rules, step_cases, store_cases)
+pub returns-in-Ok-None : goal.returns-in-Ok-None
+returns-in-Ok-None c =
+    let e : c.args.last ≡ Ok c.in-Ok-None.field-0 = c.in-Ok-None.is in
+    let d : c.in-Ok-None.field-0 ≡ None = rw e at c.in-Ok-None.field-0-is in
+    last_none _ _ (e ∙ ap Ok d)
 
-pub enum_told-1 : goal.enum_told-1
-enum_told-1 c = search (rules, step_cases, store_cases)
-
-pub enum_known-last-in-Span-1 : goal.enum_known-last-in-Span-1
-enum_known-last-in-Span-1 c = search (rules, step_cases, store_cases)
-
-pub store_span-requires : goal.store_span-requires
-store_span-requires c = search (rules, step_cases, store_cases)
-
-pub bit-requires : goal.bit-requires
-bit-requires c = search (rules, step_cases, store_cases)
-
-pub bounds-words-5 : goal.bounds-words-5
-bounds-words-5 c = search (rules, step_cases, store_cases)
-
-pub returns-in-Refused : goal.returns-in-Refused
-returns-in-Refused c = search (rules, step_cases, store_cases)
-
-pub returns-in-None : goal.returns-in-None
-returns-in-None c = search (rules, step_cases, store_cases)
-
-pub returns-in-Span : goal.returns-in-Span
-returns-in-Span c = search (rules, step_cases, store_cases)
+pub returns-in-Ok-Some : goal.returns-in-Ok-Some
+returns-in-Ok-Some c =
+    let e : c.args.last ≡ Ok c.in-Ok-Some.field-0 = c.in-Ok-Some.is in
+    let d : c.in-Ok-Some.field-0 ≡ Some c.in-Ok-Some.found = rw e at c.in-Ok-Some.field-0-is in
+    last_some _ _ _ _ _ c.requires (e ∙ ap Ok d) c.store_span.ensures c.bit.ensures

@@ -1,37 +1,21 @@
+use mathlib.Core.Path.{◌≡◌, ap, ◌∙◌}
+use Rattle.std.specs.Prelude.{Ok, Some, None}
 use borrow.Author.Rules.{rules}
-use Rattle.export.proofs.StepCases.{step_cases}
+use Rattle.export.proofs.StepCases.{step_none, step_tree, step_cases}
 use Rattle.export.proofs.StoreCases.{store_cases}
 use Rattle.export.proofs.walks.store_step.Goals as goal
 
-pub enum_known-answer : goal.enum_known-answer
-enum_known-answer c = search (rules, step_cases, store_cases)
+pub returns-in-Err : goal.returns-in-Err
+returns-in-Err c = search (rules, step_cases, store_cases)
 
-pub refused_code-requires : goal.refused_code-requires
-refused_code-requires c = search (rules, step_cases, store_cases)
+pub returns-in-Ok-None : goal.returns-in-Ok-None
+returns-in-Ok-None c =
+    let e : c.args.step.answer ≡ Ok c.in-Ok-None.field-0 = c.in-Ok-None.is in
+    let d : c.in-Ok-None.field-0 ≡ None = rw e at c.in-Ok-None.field-0-is in
+    step_none _ _ _ _ c.store_walk.ensures (e ∙ ap Ok d)
 
-pub enum_told-1 : goal.enum_told-1
-enum_told-1 c = search (rules, step_cases, store_cases)
-
-pub store_walk-requires : goal.store_walk-requires
-store_walk-requires c = search (rules, step_cases, store_cases)
-
-pub enum_known-answer-in-Tree-1 : goal.enum_known-answer-in-Tree-1
-enum_known-answer-in-Tree-1 c = search (rules, step_cases, store_cases)
-
-pub store_walk-requires-in-Tree : goal.store_walk-requires-in-Tree
-store_walk-requires-in-Tree c = search (rules, step_cases, store_cases)
-
-pub tree_words-requires : goal.tree_words-requires
-tree_words-requires c = search (rules, step_cases, store_cases)
-
-pub store_reported-requires : goal.store_reported-requires
-store_reported-requires c = search (rules, step_cases, store_cases)
-
-pub returns-in-Refused : goal.returns-in-Refused
-returns-in-Refused c = search (rules, step_cases, store_cases)
-
-pub returns-in-None : goal.returns-in-None
-returns-in-None c = search (rules, step_cases, store_cases)
-
-pub returns-in-Tree : goal.returns-in-Tree
-returns-in-Tree c = search (rules, step_cases, store_cases)
+pub returns-in-Ok-Some : goal.returns-in-Ok-Some
+returns-in-Ok-Some c =
+    let e : c.args.step.answer ≡ Ok c.in-Ok-Some.field-0 = c.in-Ok-Some.is in
+    let d : c.in-Ok-Some.field-0 ≡ Some c.in-Ok-Some.read = rw e at c.in-Ok-Some.field-0-is in
+    step_tree _ _ _ _ c.store_walk-in-Ok-Some.ensures _ _ _ (e ∙ ap Ok d) c.tree_words.ensures c.store_reported.ensures

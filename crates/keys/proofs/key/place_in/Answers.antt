@@ -5,8 +5,5 @@ use Rattle.keys.proofs.key.place_in.Goals as goal
 pub returns-then-symbols : goal.returns-then-symbols
 returns-then-symbols c = search (rules, key_cases)
 
-pub overflow_mul-result : goal.overflow_mul-result
-overflow_mul-result c = search (rules, key_cases)
-
-pub returns : goal.returns
-returns c = search (rules, key_cases)
+pub returns-else-symbols : goal.returns-else-symbols
+returns-else-symbols c = search (rules, key_cases)

@@ -8,9 +8,6 @@ overflow_add-result c = search (rules, key_cases)
 pub overflow_mul-result : goal.overflow_mul-result
 overflow_mul-result c = search (rules, key_cases)
 
-pub overflow_add-result-then-symbols : goal.overflow_add-result-then-symbols
-overflow_add-result-then-symbols c = search (rules, key_cases)
-
 pub returns-then-symbols : goal.returns-then-symbols
 returns-then-symbols c = search (rules, key_cases)
 

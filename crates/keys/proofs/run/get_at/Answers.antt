@@ -11,5 +11,5 @@ bounds-run-i c = search (rules, key_cases)
 pub returns-then-i-run : goal.returns-then-i-run
 returns-then-i-run c = search (rules, key_cases)
 
-pub returns : goal.returns
-returns c = search (rules, key_cases)
+pub returns-else-i-run : goal.returns-else-i-run
+returns-else-i-run c = search (rules, key_cases)

@@ -11,12 +11,6 @@ bounds-run-i c = search (rules, key_cases)
 pub overflow_add-run : goal.overflow_add-run
 overflow_add-run c = search (rules, key_cases)
 
-pub offset_bounds-run-i-then-i-run : goal.offset_bounds-run-i-then-i-run
-offset_bounds-run-i-then-i-run c = search (rules, key_cases)
-
-pub bounds-run-i-then-i-run : goal.bounds-run-i-then-i-run
-bounds-run-i-then-i-run c = search (rules, key_cases)
-
 pub returns-then-i-run : goal.returns-then-i-run
 returns-then-i-run c = search (rules, key_cases)
 

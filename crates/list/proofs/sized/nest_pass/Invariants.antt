@@ -1,12 +1,10 @@
 use Prim.Native.Nat.{◌-◌, ◌≤◌}
-use mathlib.Core.Path.{◌≡◌}
-use lib.ListN.{length}
 use Rattle.format.specs.WordList.{list_count}
 use Rattle.list.proofs.Returns.{Passing}
 use Rattle.list.proofs.sized.nest_pass.Given as goal
 
 abbrev pub invariant-loop-n : goal.invariant-loop-n
-invariant-loop-n l = (l.n ≤ list_count l.l) × (l.depth ≤ 256) × (length l.ends ≡ length l.initial.ends) × Passing l.l l.n l.depth l.ends
+invariant-loop-n l = (l.n ≤ list_count l.l) × (l.depth ≤ 256) × Passing l.l l.n l.depth l.ends
 
 abbrev pub decreases-loop-n : goal.decreases-loop-n
 decreases-loop-n l = list_count l.l - l.n

@@ -1,4 +1,4 @@
-use Prim.Native.Nat.{◌*◌}
+use Prim.Native.Nat.{◌*◌, ◌-◌}
 use mathlib.Core.Path.{◌≡◌}
 use Rattle.format.specs.Cursor.{fresh_cursor}
 use Rattle.format.specs.Buffer.{own_reader}
@@ -7,11 +7,8 @@ use Rattle.cursor.specs.Moves.{Arrays}
 use Rattle.measure.specs.Sum.{cursor_sum}
 use Rattle.measure.proofs.cursors.lent_sum.Given as goal
 
-abbrev pub invariant-loop-left : goal.invariant-loop-left
-invariant-loop-left l =
+abbrev pub invariant-loop-n : goal.invariant-loop-n
+invariant-loop-n l =
     (cursor_sum (own_reader l.b l.trees l.parts l.symbols) l.trees (2 * l.trees) fresh_cursor 0
-    ≡ cursor_sum (own_reader l.b l.trees l.parts l.symbols) l.trees l.left (cursor_of l.at l.numbers l.counts l.places) l.sum)
+    ≡ cursor_sum (own_reader l.b l.trees l.parts l.symbols) l.trees (2 * l.trees - l.n) (cursor_of l.at l.numbers l.counts l.places) l.sum)
     × Arrays l.numbers l.counts l.places
-
-abbrev pub decreases-loop-left : goal.decreases-loop-left
-decreases-loop-left l = l.left

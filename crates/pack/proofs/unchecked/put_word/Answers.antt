@@ -1,41 +1,7 @@
 use borrow.Author.Rules.{rules}
-use native.Mathlib.Omega.{arith}
-use lib.ListN.{length-set}
-use Rattle.pack.proofs.Store.{store_cases}
+use mathlib.Core.Path.{refl, ◌∙◌}
+use Rattle.pack.proofs.Store.{store_bytes, word_le}
 use Rattle.pack.proofs.unchecked.put_word.Goals as goal
 
-pub overflow_cast-out : goal.overflow_cast-out
-overflow_cast-out c = search (rules, store_cases)
-
-pub bounds-out-at : goal.bounds-out-at
-bounds-out-at c = search (rules, store_cases)
-
-pub overflow_cast-out-2 : goal.overflow_cast-out-2
-overflow_cast-out-2 c = search (rules, store_cases)
-
-pub overflow_add-out : goal.overflow_add-out
-overflow_add-out c = search (rules, store_cases)
-
-pub bounds-out-at-2 : goal.bounds-out-at-2
-bounds-out-at-2 c = simp length-set (omega arith)
-
-pub overflow_cast-out-3 : goal.overflow_cast-out-3
-overflow_cast-out-3 c = search (rules, store_cases)
-
-pub overflow_add-out-2 : goal.overflow_add-out-2
-overflow_add-out-2 c = search (rules, store_cases)
-
-pub bounds-out-at-3 : goal.bounds-out-at-3
-bounds-out-at-3 c = simp length-set (omega arith)
-
-pub overflow_cast-out-4 : goal.overflow_cast-out-4
-overflow_cast-out-4 c = search (rules, store_cases)
-
-pub overflow_add-out-3 : goal.overflow_add-out-3
-overflow_add-out-3 c = search (rules, store_cases)
-
-pub bounds-out-at-4 : goal.bounds-out-at-4
-bounds-out-at-4 c = simp length-set (omega arith)
-
 pub returns : goal.returns
-returns c = search (rules, store_cases)
+returns c = store_bytes c.args.out.now c.args.at 4 _ _ (c.copy_from_slice.ensures.after ∙ c.to_le_bytes.ensures ∙ word_le c.args.w (search rules)) refl

@@ -8,8 +8,8 @@ begin_of-at-requires c = search (rules, put_at_cases)
 pub children_of-children-requires : goal.children_of-children-requires
 children_of-children-requires c = search (rules, put_at_cases)
 
-pub put_listed-requires : goal.put_listed-requires
-put_listed-requires c = search (rules, put_at_cases)
+pub put_listed-requires-clause-children_value : goal.put_listed-requires-clause-children_value
+put_listed-requires-clause-children_value c = search (rules, put_at_cases)
 
 pub returns : goal.returns
 returns c = search (rules, put_at_cases)

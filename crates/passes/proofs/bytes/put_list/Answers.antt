@@ -5,13 +5,5 @@ use Rattle.passes.proofs.bytes.put_list.Goals as goal
 pub returns-then-count-eq0 : goal.returns-then-count-eq0
 returns-then-count-eq0 c = search (rules, put_list_cases)
 
-pub put_root-requires : goal.put_root-requires
-put_root-requires c = search (rules, put_list_cases)
-
-pub put_all-requires : goal.put_all-requires
-put_all-requires c = search (rules, put_list_cases)
-
 pub returns : goal.returns
-returns c =
-    let p = c.requires in
-    search (rules, put_list_cases, p)
+returns c = search (rules, put_list_cases)

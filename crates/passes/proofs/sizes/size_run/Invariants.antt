@@ -1,11 +1,7 @@
-use Prim.Native.Nat.{◌-◌, ◌≤◌}
-use Rattle.tree.specs.Mode.{mode_of}
+use Prim.Native.Nat.{◌≤◌}
+use Rattle.passes.specs.Runs.{mode_by}
 use Rattle.passes.specs.Run.{Sized, Beyond}
 use Rattle.passes.proofs.sizes.size_run.Given as goal
 
 abbrev pub invariant-loop-n : goal.invariant-loop-n
-invariant-loop-n l =
-    (l.from ≤ l.n) × (l.n ≤ l.stop) × Sized (mode_of l.limits l.parts l.pair l.symbols) l.l l.n l.work × Beyond l.l l.work l.initial.work
-
-abbrev pub decreases-loop-n : goal.decreases-loop-n
-decreases-loop-n l = l.n - l.from
+invariant-loop-n l = (l.from ≤ l.n) × Sized (mode_by l.tables) l.l l.n l.work × Beyond l.l l.work l.initial.work

@@ -1,42 +1,18 @@
-use borrow.Author.Rules.{rules}
-use Rattle.places.proofs.IndexReturns.{enter_cases, enter_stored}
+use Rattle.std.proofs.Common.{arith}
+use Rattle.places.proofs.IndexReturns.{enter_slot, enter_stored, enter_kept}
 use Rattle.places.proofs.index.enter.Goals as goal
 
-pub key_from-k-requires : goal.key_from-k-requires
-key_from-k-requires c = search (rules, enter_cases)
-
-pub slot_of-start-requires : goal.slot_of-start-requires
-slot_of-start-requires c = search (rules, enter_cases)
-
-pub look-requires : goal.look-requires
-look-requires c = search (rules, enter_cases)
-
-pub enum_told-1 : goal.enum_told-1
-enum_told-1 c = search (rules, enter_cases)
-
-pub enum_known-s : goal.enum_known-s
-enum_known-s c = search (rules, enter_cases)
-
-pub overflow_add-slots : goal.overflow_add-slots
-overflow_add-slots c = search (rules, enter_cases)
-
-pub overflow_cast-slots : goal.overflow_cast-slots
-overflow_cast-slots c = search (rules, enter_cases)
-
 pub offset_bounds-slots-s : goal.offset_bounds-slots-s
-offset_bounds-slots-s c = search (rules, enter_cases)
+offset_bounds-slots-s c =
+    let h = enter_slot _ _ _ c.requires.held _ c.at-k.ensures _ c.slot_of-start.ensures.0 _ c.look.ensures _ c.in-Empty.is c.slot_of-start.ensures.1 in
+    omega arith
 
 pub bounds-slots-s : goal.bounds-slots-s
-bounds-slots-s c = search (rules, enter_cases)
-
-pub enum_told-in-Full : goal.enum_told-in-Full
-enum_told-in-Full c = search (rules, enter_cases)
-
-pub returns-in-Found : goal.returns-in-Found
-returns-in-Found c = search (rules, enter_cases)
+bounds-slots-s c = enter_slot _ _ _ c.requires.held _ c.at-k.ensures _ c.slot_of-start.ensures.0 _ c.look.ensures _ c.in-Empty.is c.slot_of-start.ensures.1
 
 pub returns-in-Empty : goal.returns-in-Empty
-returns-in-Empty c = search enter_stored
+returns-in-Empty c = enter_stored _ _ _ c.requires.held _ c.at-k.ensures _ c.slot_of-start.ensures.0 _ c.look.ensures _ c.in-Empty.is c.slot_of-start.ensures.1
 
-pub returns-in-Full : goal.returns-in-Full
-returns-in-Full c = search (rules, enter_cases)
+pub returns-in_default : goal.returns-in_default
+returns-in_default c =
+    enter_kept _ _ _ c.requires.held _ c.at-k.ensures _ c.slot_of-start.ensures.0 _ c.look.ensures c.in_default.not-Empty c.slot_of-start.ensures.1 (omega arith)

@@ -1,12 +1,5 @@
-use borrow.Author.Rules.{rules}
-use Rattle.places.proofs.IndexReturns.{load_cases, filled_again}
+use Rattle.places.proofs.IndexLaw.{held_empty}
 use Rattle.places.proofs.index.load.Goals as goal
 
-pub fill-requires : goal.fill-requires
-fill-requires c = search (rules, load_cases)
-
-pub enter_all-requires : goal.enter_all-requires
-enter_all-requires c = search (rules, filled_again)
-
-pub returns : goal.returns
-returns c = search (rules, load_cases)
+pub loop-i-init : goal.loop-i-init
+loop-i-init c = held_empty _ _ _ (c.fill.ensures.after (λ y e. e))

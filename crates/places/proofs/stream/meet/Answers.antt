@@ -1,30 +1,15 @@
-use borrow.Author.Rules.{rules}
-use Rattle.places.proofs.StreamReturns.{meet_cases}
+use Rattle.std.proofs.Common.{arith}
+use Rattle.places.proofs.StreamReturns.{found_room, meet_none, meet_found}
 use Rattle.places.proofs.stream.meet.Goals as goal
 
-pub key_at-k-requires : goal.key_at-k-requires
-key_at-k-requires c = search (rules, meet_cases)
-
-pub find_key-requires : goal.find_key-requires
-find_key-requires c = search (rules, meet_cases)
-
-pub enum_known-j : goal.enum_known-j
-enum_known-j c = search (rules, meet_cases)
+pub overflow_add-p : goal.overflow_add-p
+overflow_add-p c = let h = found_room _ _ _ _ _ _ _ _ _ _ _ _ c.requires.midway _ _ c.find.ensures _ c.in-Some.is in omega arith
 
 pub put_first-requires : goal.put_first-requires
-put_first-requires c = search (rules, meet_cases)
+put_first-requires c = let h = found_room _ _ _ _ _ _ _ _ _ _ _ _ c.requires.midway _ _ c.find.ensures _ c.in-Some.is in let g = c.args.p.now.table.most in (h, omega arith)
 
-pub enum_told-1 : goal.enum_told-1
-enum_told-1 c = search (rules, meet_cases)
+pub returns-in-Some : goal.returns-in-Some
+returns-in-Some c = meet_found _ _ _ _ _ _ _ _ _ _ _ c.requires.midway _ c.key_at-k.ensures _ c.find.ensures _ c.in-Some.is c.requires.e_in_table _ c.put_first.ensures
 
-pub enum_told-in-Full : goal.enum_told-in-Full
-enum_told-in-Full c = search (rules, meet_cases)
-
-pub returns-in-Found : goal.returns-in-Found
-returns-in-Found c = search (rules, meet_cases)
-
-pub returns-in-Empty : goal.returns-in-Empty
-returns-in-Empty c = search (rules, meet_cases)
-
-pub returns-in-Full : goal.returns-in-Full
-returns-in-Full c = search (rules, meet_cases)
+pub returns-in_default : goal.returns-in_default
+returns-in_default c = meet_none _ _ _ _ _ _ _ _ _ _ _ c.requires.midway _ c.key_at-k.ensures _ c.find.ensures c.in_default.is

@@ -1,30 +1,15 @@
-use borrow.Author.Rules.{rules}
-use Rattle.places.proofs.StreamReturns.{spread_one_cases}
+use Rattle.std.proofs.Common.{arith, refl}
+use Rattle.places.proofs.StreamReturns.{found_room, spread_found}
 use Rattle.places.proofs.stream.spread_one.Goals as goal
 
-pub key_from-k-requires : goal.key_from-k-requires
-key_from-k-requires c = search (rules, spread_one_cases)
+pub overflow_add-out : goal.overflow_add-out
+overflow_add-out c = let h = found_room _ _ _ _ _ _ _ _ _ _ _ _ c.requires.midway _ _ c.find.ensures _ c.in-Some.is in omega arith
 
-pub find_key-requires : goal.find_key-requires
-find_key-requires c = search (rules, spread_one_cases)
+pub offset_bounds-out-p : goal.offset_bounds-out-p
+offset_bounds-out-p c = let h = found_room _ _ _ _ _ _ _ _ _ _ _ _ c.requires.midway _ _ c.find.ensures _ c.in-Some.is in omega arith
 
-pub enum_known-j : goal.enum_known-j
-enum_known-j c = search (rules, spread_one_cases)
+pub bounds-out-p : goal.bounds-out-p
+bounds-out-p c = found_room _ _ _ _ _ _ _ _ _ _ _ _ c.requires.midway _ _ c.find.ensures _ c.in-Some.is
 
-pub copy_place-requires : goal.copy_place-requires
-copy_place-requires c = search (rules, spread_one_cases)
-
-pub enum_told-1 : goal.enum_told-1
-enum_told-1 c = search (rules, spread_one_cases)
-
-pub enum_told-in-Full : goal.enum_told-in-Full
-enum_told-in-Full c = search (rules, spread_one_cases)
-
-pub returns-in-Found : goal.returns-in-Found
-returns-in-Found c = search (rules, spread_one_cases)
-
-pub returns-in-Empty : goal.returns-in-Empty
-returns-in-Empty c = search (rules, spread_one_cases)
-
-pub returns-in-Full : goal.returns-in-Full
-returns-in-Full c = search (rules, spread_one_cases)
+pub returns-in-Some : goal.returns-in-Some
+returns-in-Some c = spread_found _ _ _ _ _ _ _ _ _ _ _ c.requires.i_in_portion c.requires.midway _ c.at-k.ensures _ c.find.ensures _ c.in-Some.is _ refl

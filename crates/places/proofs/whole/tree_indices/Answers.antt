@@ -1,27 +1,14 @@
-use borrow.Author.Rules.{rules}
-use Rattle.places.proofs.WholeReturns.{tree_indices_cases}
+use Rattle.places.proofs.WholeReturns.{open_inside, close_inside, name_inside, tree_found}
 use Rattle.places.proofs.whole.tree_indices.Goals as goal
 
-pub overflow_mul-sort : goal.overflow_mul-sort
-overflow_mul-sort c = search (rules, tree_indices_cases)
+pub key_at-opening-requires : goal.key_at-opening-requires
+key_at-opening-requires c = open_inside _ _ c.requires.0
 
-pub offset_bounds-l-n : goal.offset_bounds-l-n
-offset_bounds-l-n c = search (rules, tree_indices_cases)
+pub close_or_open-closing-requires : goal.close_or_open-closing-requires
+close_or_open-closing-requires c = close_inside _ _ c.requires.0
 
-pub bounds-l-n : goal.bounds-l-n
-bounds-l-n c = search (rules, tree_indices_cases)
-
-pub key_at-k-requires : goal.key_at-k-requires
-key_at-k-requires c = search (rules, tree_indices_cases)
-
-pub place_in-o-requires : goal.place_in-o-requires
-place_in-o-requires c = search (rules, tree_indices_cases)
-
-pub close_place-c-requires : goal.close_place-c-requires
-close_place-c-requires c = search (rules, tree_indices_cases)
-
-pub name_place-y-requires : goal.name_place-y-requires
-name_place-y-requires c = search (rules, tree_indices_cases)
+pub name_or_first-name-requires : goal.name_or_first-name-requires
+name_or_first-name-requires c = name_inside _ _ c.requires.0
 
 pub returns : goal.returns
-returns c = search (rules, tree_indices_cases)
+returns c = tree_found _ _ _ _ _ c.requires.1 _ _ _ c.key_at-opening.ensures c.close_or_open-closing.ensures c.name_or_first-name.ensures _ _ _ c.part_place-o.ensures c.close_place.ensures c.symbol_place.ensures

@@ -1,36 +1,26 @@
+use mathlib.Core.Path.{refl}
 use borrow.Author.Rules.{rules}
-use Rattle.replace.proofs.PreviewReturns.{preview_cases}
+use Rattle.std.proofs.lemmas.Result.{err_from_is_err_and}
+use Rattle.replace.proofs.PrepareReturns.{there_rows, there_held, there_counts}
+use Rattle.replace.proofs.PreviewReturns.{preview_cases, none_previewed, all_previewed}
 use Rattle.replace.proofs.preview.preview_words.Goals as goal
 
-pub prepare-requires : goal.prepare-requires
-prepare-requires c = search (rules, preview_cases)
+pub returns-in_err-made : goal.returns-in_err-made
+returns-in_err-made c =
+    let p = err_from_is_err_and c.from_residual.result c.from_residual.ensures.1 in
+    rw (p.1, p.2) (none_previewed _ _ _ _ _ _ _ _ _ _ _ _ _ c.in_err-made.ensures _ refl)
 
-pub enum_known-why : goal.enum_known-why
-enum_known-why c = search (rules, preview_cases)
+pub slice_bounds-own_tables-end : goal.slice_bounds-own_tables-end
+slice_bounds-own_tables-end c = search (rules, preview_cases)
 
-pub enum_known-made : goal.enum_known-made
-enum_known-made c = search (rules, preview_cases)
+pub own_tables-own-requires-clause-rows : goal.own_tables-own-requires-clause-rows
+own_tables-own-requires-clause-rows c = there_rows _ _ _ _ _ _ _ _ _ _ _ _ _ c.in_ok-made.ensures _ refl _ c.place-end.ensures.0
 
-pub place-end-requires : goal.place-end-requires
-place-end-requires c = search (rules, preview_cases)
+pub own_tables-own-requires-clause-held : goal.own_tables-own-requires-clause-held
+own_tables-own-requires-clause-held c = there_held _ _ _ _ _ _ _ _ _ _ _ _ _ c.in_ok-made.ensures _ refl _ c.place-end.ensures.0
 
-pub overflow_mul-end : goal.overflow_mul-end
-overflow_mul-end c = search (rules, preview_cases)
+pub fresh_sizes-requires : goal.fresh_sizes-requires
+fresh_sizes-requires c = there_counts _ _ _ _ _ _ _ _ _ _ _ _ _ c.in_ok-made.ensures _ refl _ c.place-end.ensures.0 _ c.own_tables-own.ensures c.prepare.auto.counts
 
-pub slice_bounds-sizes_made-count : goal.slice_bounds-sizes_made-count
-slice_bounds-sizes_made-count c = search (rules, preview_cases)
-
-pub sizes_made-sizes-requires : goal.sizes_made-sizes-requires
-sizes_made-sizes-requires c = search (rules, preview_cases)
-
-pub returns-in-Refused : goal.returns-in-Refused
-returns-in-Refused c = search (rules, preview_cases)
-
-pub returns-in-Made : goal.returns-in-Made
-returns-in-Made c = search (rules, preview_cases)
-
-pub slice_bounds-sizes_made-start : goal.slice_bounds-sizes_made-start
-slice_bounds-sizes_made-start c = search (rules, preview_cases)
-
-pub slice_bounds-sizes_made-end : goal.slice_bounds-sizes_made-end
-slice_bounds-sizes_made-end c = search (rules, preview_cases)
+pub returns : goal.returns
+returns c = all_previewed _ _ _ _ _ _ _ _ _ _ _ _ _ c.in_ok-made.ensures _ refl _ c.place-end.ensures.0 _ c.own_tables-own.ensures _ _ c.fresh_sizes.ensures

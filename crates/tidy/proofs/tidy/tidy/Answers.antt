@@ -1,35 +1,22 @@
+use mathlib.Core.Path.{refl, ap}
 use mathlib.Core.Bool.{not}
-use mathlib.Core.Path.{ap}
-use borrow.Author.Rules.{rules}
-use Rattle.tidy.proofs.TidyReturns.{tidy_cases, work_room}
+use Rattle.std.proofs.lemmas.Result.{err_from_is_err_and}
+use Rattle.tidy.proofs.TidyReturns.{check_refused, check_passed, work_room, work_short, written_again}
 use Rattle.tidy.proofs.tidy.tidy.Goals as goal
 
-pub check_buffer-requires : goal.check_buffer-requires
-check_buffer-requires c = search (rules, tidy_cases)
-
-pub enum_known-why : goal.enum_known-why
-enum_known-why c = search (rules, tidy_cases)
-
-pub enum_told-1 : goal.enum_told-1
-enum_told-1 c = search (rules, tidy_cases)
-
-pub work_fits-requires : goal.work_fits-requires
-work_fits-requires c = search (rules, tidy_cases)
-
-pub short-requires : goal.short-requires
-short-requires c = search (rules, tidy_cases)
+pub returns-in_err-check_buffer : goal.returns-in_err-check_buffer
+returns-in_err-check_buffer c =
+    let p = err_from_is_err_and c.from_residual.result c.from_residual.ensures.1 in
+    rw (p.1, p.2) (check_refused _ _ _ _ _ _ _ _ _ c.in_err-check_buffer.ensures _ refl)
 
 pub returns-then-not-work_fits : goal.returns-then-not-work_fits
-returns-then-not-work_fits c = search (rules, tidy_cases)
+returns-then-not-work_fits c = work_short _ _ _ _ _ _ _ _ _ c.in_ok-check_buffer.ensures refl _ c.work_fits.ensures (ap not c.if-not-work_fits.true)
 
-pub write_again-requires : goal.write_again-requires
-write_again-requires c =
-    let works = c.work_fits.ensures in
-    let ample = c.if-not-work_fits.false in
-    record { symbols_value = search (rules, tidy_cases); trees_in_bounds = work_room _ _ _ _ _ works (ap not ample) }
+pub write_again-requires-clause-passes : goal.write_again-requires-clause-passes
+write_again-requires-clause-passes c = check_passed _ _ _ _ _ c.in_ok-check_buffer.ensures refl
 
-pub returns-in-Refused : goal.returns-in-Refused
-returns-in-Refused c = search (rules, tidy_cases)
+pub write_again-requires-clause-room : goal.write_again-requires-clause-room
+write_again-requires-clause-room c = work_room _ _ _ _ _ c.work_fits.ensures (ap not c.if-not-work_fits.false)
 
-pub returns-else-not-work_fits : goal.returns-else-not-work_fits
-returns-else-not-work_fits c = search (rules, tidy_cases)
+pub returns : goal.returns
+returns c = written_again _ _ _ _ _ _ _ _ _ c.in_ok-check_buffer.ensures refl _ c.work_fits.ensures (ap not c.if-not-work_fits.false) _ _ _ _ c.write_again.ensures

@@ -1,33 +1,13 @@
-use borrow.Author.Rules.{rules}
-use Rattle.tree.proofs.StoreReturns.{put_cases}
+use Rattle.std.proofs.Common.{◌≡◌, ℕ, ◌+◌, ◌-◌, List, ◌++◌, length, take, drop, sym, append_assoc, arith}
+use Rattle.std.proofs.Math.Seq.{drop-drop}
+use Rattle.format.specs.Word.{put}
 use Rattle.tree.proofs.unchecked.put_words.Goals as goal
 
-pub loop-i-init : goal.loop-i-init
-loop-i-init c = search (rules, put_cases)
-
-pub offset_bounds-words-i : goal.offset_bounds-words-i
-offset_bounds-words-i c = search (rules, put_cases)
-
-pub bounds-words-i : goal.bounds-words-i
-bounds-words-i c = search (rules, put_cases)
-
-pub overflow_add-list : goal.overflow_add-list
-overflow_add-list c = search (rules, put_cases)
-
-pub offset_bounds-list-at : goal.offset_bounds-list-at
-offset_bounds-list-at c = search (rules, put_cases)
-
-pub bounds-list-at : goal.bounds-list-at
-bounds-list-at c = search (rules, put_cases)
-
-pub overflow_add-i : goal.overflow_add-i
-overflow_add-i c = search (rules, put_cases)
-
-pub loop-i-smaller : goal.loop-i-smaller
-loop-i-smaller c = search (rules, put_cases)
-
-pub loop-i-preserved : goal.loop-i-preserved
-loop-i-preserved c = search (rules, put_cases)
+put_there : (l ws : List ℕ) (at : ℕ) → put l at ws ≡ take at l ++ (ws ++ drop (length ws) (drop at l))
+unfolding put
+put_there l ws at = rw drop-drop (append_assoc (take at l) ws (drop (at + length ws) l))
 
 pub returns : goal.returns
-returns c = search (rules, put_cases)
+returns c =
+    let n : c.args.at + length c.args.words.now - c.args.at ≡ length c.args.words.now = omega arith in
+    rw (n, c.copy_from_slice.ensures.after) (sym (put_there c.args.list.now c.args.words.now c.args.at))

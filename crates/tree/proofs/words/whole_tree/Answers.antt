@@ -1,42 +1,22 @@
-use borrow.Author.Rules.{rules}
-use Rattle.tree.proofs.WordsTree.{whole_cases}
+-- What row 2 asks of word 2, by the sort.
+use Rattle.std.proofs.Common.{◌≡◌, ◌≤◌, ◌∙◌, ℕ, sym, arith}
+use borrow.Author.Tests.{leb-true}
+use Rattle.format.specs.WordList.{word_of}
+use Rattle.tree.proofs.WordsFit.{three, punct_fit, ident_fit, literal_fit, subtree_fit}
 use Rattle.tree.proofs.words.whole_tree.Goals as goal
 
-pub word-sort-requires : goal.word-sort-requires
-word-sort-requires c = search (rules, whole_cases)
+pub spacing_of-requires : goal.spacing_of-requires
+spacing_of-requires c = punct_fit (word_of c.args.l.now c.args.n) c.requires.1 (sym c.sort_at.ensures ∙ c.in-0.is)
 
-pub word-first-requires : goal.word-first-requires
-word-first-requires c = search (rules, whole_cases)
+pub is_raw_of-requires : goal.is_raw_of-requires
+is_raw_of-requires c = ident_fit (word_of c.args.l.now c.args.n) c.requires.1 (sym c.sort_at.ensures ∙ c.in-1.is)
 
-pub word-second-requires : goal.word-second-requires
-word-second-requires c = search (rules, whole_cases)
+pub lit_kind_of-requires : goal.lit_kind_of-requires
+lit_kind_of-requires c = leb-true _ _ (literal_fit (word_of c.args.l.now c.args.n) c.requires.1 (sym c.sort_at.ensures ∙ c.in-2.is)).0
 
-pub whole_span-span-requires : goal.whole_span-span-requires
-whole_span-span-requires c = search (rules, whole_cases)
-
-pub whole_punct-requires : goal.whole_punct-requires
-whole_punct-requires c = search (rules, whole_cases)
-
-pub returns-then-sort-eq0 : goal.returns-then-sort-eq0
-returns-then-sort-eq0 c = search (rules, whole_cases)
-
-pub whole_ident-requires : goal.whole_ident-requires
-whole_ident-requires c = search (rules, whole_cases)
-
-pub returns-then-sort-eq1 : goal.returns-then-sort-eq1
-returns-then-sort-eq1 c = search (rules, whole_cases)
-
-pub whole_literal-requires : goal.whole_literal-requires
-whole_literal-requires c = search (rules, whole_cases)
-
-pub returns-then-sort-eq2 : goal.returns-then-sort-eq2
-returns-then-sort-eq2 c = search (rules, whole_cases)
-
-pub whole_span-closing-requires : goal.whole_span-closing-requires
-whole_span-closing-requires c = search (rules, whole_cases)
-
-pub whole_subtree-requires : goal.whole_subtree-requires
-whole_subtree-requires c = search (rules, whole_cases)
-
-pub returns : goal.returns
-returns c = search (rules, whole_cases)
+pub delimiter_of-requires : goal.delimiter_of-requires
+delimiter_of-requires c =
+    let w : ℕ → ℕ = word_of c.args.l.now c.args.n in
+    let l : w 0 ≤ 3 = leb-true (w 0) 3 (three w c.requires.1).0 in
+    let e : w 0 ≡ 3 = omega arith in
+    subtree_fit w c.requires.1 e

@@ -1,27 +1,11 @@
-use borrow.Author.Rules.{rules}
-use Rattle.walk.proofs.LastReturns.{whole_cases}
+use Rattle.std.proofs.lemmas.Result.{err_from_is_err_and}
+use Rattle.walk.proofs.LastReturns.{whole_1, whole_last}
 use Rattle.walk.proofs.last_span.last_span.Goals as goal
 
-pub sized-requires : goal.sized-requires
-sized-requires c = search (rules, whole_cases)
-
-pub returns-then-not-sized : goal.returns-then-not-sized
-returns-then-not-sized c = search (rules, whole_cases)
-
-pub own_limits-limits-requires : goal.own_limits-limits-requires
-own_limits-limits-requires c = search (rules, whole_cases)
-
-pub overflow_mul-pair : goal.overflow_mul-pair
-overflow_mul-pair c = search (rules, whole_cases)
-
-pub offset_bounds-parts-limits : goal.offset_bounds-parts-limits
-offset_bounds-parts-limits c = search (rules, whole_cases)
-
-pub slice_bounds-pair-count : goal.slice_bounds-pair-count
-slice_bounds-pair-count c = search (rules, whole_cases)
-
-pub last_in-requires : goal.last_in-requires
-last_in-requires c = search (rules, whole_cases)
+pub returns-in_err-buffer : goal.returns-in_err-buffer
+returns-in_err-buffer c =
+    let p = err_from_is_err_and c.from_residual.result c.from_residual.ensures.1 in
+    rw (p.1, p.2) (whole_1 _ _ _ _ _ _ c.in_err-buffer.ensures)
 
 pub returns : goal.returns
-returns c = search (rules, whole_cases)
+returns c = whole_last _ _ _ _ _ _ c.in_ok-buffer.ensures _ c.last_in.ensures

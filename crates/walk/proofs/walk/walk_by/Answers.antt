@@ -1,30 +1,8 @@
-use borrow.Author.Rules.{rules}
-use Rattle.walk.proofs.WalkReturns.{front_cases}
+use Rattle.walk.proofs.WalkReturns.{front_1, front_step}
 use Rattle.walk.proofs.walk.walk_by.Goals as goal
 
-pub sized-requires : goal.sized-requires
-sized-requires c = search (rules, front_cases)
+pub returns-in-Err : goal.returns-in-Err
+returns-in-Err c = front_1 _ _ _ _ _ _ _ _ c.in-Err.ensures c.refuse.ensures
 
-pub refuse-requires : goal.refuse-requires
-refuse-requires c = search (rules, front_cases)
-
-pub returns-then-not-sized : goal.returns-then-not-sized
-returns-then-not-sized c = search (rules, front_cases)
-
-pub own_limits-limits-requires : goal.own_limits-limits-requires
-own_limits-limits-requires c = search (rules, front_cases)
-
-pub overflow_mul-pair : goal.overflow_mul-pair
-overflow_mul-pair c = search (rules, front_cases)
-
-pub offset_bounds-parts-limits : goal.offset_bounds-parts-limits
-offset_bounds-parts-limits c = search (rules, front_cases)
-
-pub slice_bounds-pair-count : goal.slice_bounds-pair-count
-slice_bounds-pair-count c = search (rules, front_cases)
-
-pub walk_in-requires : goal.walk_in-requires
-walk_in-requires c = search (rules, front_cases)
-
-pub returns : goal.returns
-returns c = search (rules, front_cases)
+pub returns-in-Ok : goal.returns-in-Ok
+returns-in-Ok c = front_step _ _ _ _ _ _ _ _ c.in-Ok.ensures c.walk_in.ensures

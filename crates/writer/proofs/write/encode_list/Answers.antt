@@ -1,39 +1,22 @@
+use mathlib.Core.Path.{refl}
 use borrow.Author.Rules.{rules}
-use Rattle.writer.proofs.EncodeReturns.{list_cases}
+use Rattle.std.proofs.lemmas.Result.{err_from_is_err_and}
+use Rattle.writer.proofs.EncodeReturns.{list_cases, rules_refused, written_list}
 use Rattle.writer.proofs.write.encode_list.Goals as goal
-
-pub list_sized-requires : goal.list_sized-requires
-list_sized-requires c = search (rules, list_cases)
-
-pub refuse-requires : goal.refuse-requires
-refuse-requires c = search (rules, list_cases)
 
 pub returns-then-not-list_sized : goal.returns-then-not-list_sized
 returns-then-not-list_sized c = search (rules, list_cases)
 
-pub tables_sized-requires : goal.tables_sized-requires
-tables_sized-requires c = search (rules, list_cases)
-
-pub refuse-requires-then-not-tables_sized : goal.refuse-requires-then-not-tables_sized
-refuse-requires-then-not-tables_sized c = search (rules, list_cases)
-
 pub returns-then-not-tables_sized : goal.returns-then-not-tables_sized
 returns-then-not-tables_sized c = search (rules, list_cases)
 
-pub list_rules-requires : goal.list_rules-requires
-list_rules-requires c = search (rules, list_cases)
+pub write_own-requires-clause-l_value : goal.write_own-requires-clause-l_value
+write_own-requires-clause-l_value c = search (rules, list_cases)
 
-pub enum_told-1 : goal.enum_told-1
-enum_told-1 c = search (rules, list_cases)
+pub returns : goal.returns
+returns c = written_list _ _ c.in_ok-list_rules.ensures refl _ _ _ _ _ _ _ c.write_own.ensures
 
-pub write_own-requires : goal.write_own-requires
-write_own-requires c = search (rules, list_cases)
-
-pub enum_known-at : goal.enum_known-at
-enum_known-at c = search (rules, list_cases)
-
-pub returns-in-Passed : goal.returns-in-Passed
-returns-in-Passed c = search (rules, list_cases)
-
-pub returns-in-Refused : goal.returns-in-Refused
-returns-in-Refused c = search (rules, list_cases)
+pub returns-in_err-list_rules : goal.returns-in_err-list_rules
+returns-in_err-list_rules c =
+    let p = err_from_is_err_and c.from_residual.result c.from_residual.ensures.1 in
+    rw (p.1, p.2) (rules_refused _ _ _ _ c.list_sized.ensures (search rules) _ c.tables_sized.ensures (search rules) _ c.in_err-list_rules.ensures _ refl _ _)

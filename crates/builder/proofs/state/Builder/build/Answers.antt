@@ -1,27 +1,15 @@
-use borrow.Author.Rules.{rules}
-use Rattle.builder.proofs.BuildReturns.{build_cases}
+use Rattle.std.proofs.Common.{refl, []}
+use Rattle.std.proofs.lemmas.Result.{err_from_is_err_and}
+use Rattle.builder.proofs.BuildReturns.{build_refused, ready_room, build_made, front_length}
 use Rattle.builder.proofs.state.Builder.build.Goals as goal
 
-pub ready_verdict-verdict-requires : goal.ready_verdict-verdict-requires
-ready_verdict-verdict-requires c = search (rules, build_cases)
+pub returns-in_err-ready : goal.returns-in_err-ready
+returns-in_err-ready c =
+    let p = err_from_is_err_and c.from_residual.result c.from_residual.ensures.1 in
+    rw (p.1, p.2) (build_refused _ _ _ _ _ _ _ c.ready.ensures _ c.in_err-ready.was)
 
-pub enum_known-verdict : goal.enum_known-verdict
-enum_known-verdict c = search (rules, build_cases)
+pub slice_bounds-encode_holding-end : goal.slice_bounds-encode_holding-end
+slice_bounds-encode_holding-end c = front_length _ _ (ready_room c.args.self c.args.list.now [] [] [] [] _ c.ready.ensures c.in_ok-ready.was _ refl)
 
-pub enum_told-1 : goal.enum_told-1
-enum_told-1 c = search (rules, build_cases)
-
-pub place-end-requires : goal.place-end-requires
-place-end-requires c = search (rules, build_cases)
-
-pub overflow_mul-end : goal.overflow_mul-end
-overflow_mul-end c = search (rules, build_cases)
-
-pub write_holding-requires : goal.write_holding-requires
-write_holding-requires c = search (rules, build_cases)
-
-pub returns-in-Refused : goal.returns-in-Refused
-returns-in-Refused c = search (rules, build_cases)
-
-pub returns-in-Passed : goal.returns-in-Passed
-returns-in-Passed c = search (rules, build_cases)
+pub returns : goal.returns
+returns c = build_made _ _ _ _ _ _ _ c.ready.ensures c.in_ok-ready.was _ refl _ _ _ c.encode_holding.ensures

@@ -1,36 +1,17 @@
-use borrow.Author.Rules.{rules}
-use Rattle.builder.proofs.BuildReturns.{build_cases}
+use Rattle.std.proofs.Common.{refl, []}
+use Rattle.std.proofs.lemmas.Result.{err_from_is_err_and}
+use Rattle.builder.proofs.BuildReturns.{skip_refused, ready_end, ready_room, skip_inner, skip_whole, inner_written}
 use Rattle.builder.proofs.state.Builder.build_skip_top_subtree.Goals as goal
 
-pub ready_verdict-verdict-requires : goal.ready_verdict-verdict-requires
-ready_verdict-verdict-requires c = search (rules, build_cases)
-
-pub enum_known-verdict : goal.enum_known-verdict
-enum_known-verdict c = search (rules, build_cases)
-
-pub enum_told-1 : goal.enum_told-1
-enum_told-1 c = search (rules, build_cases)
-
-pub place-end-requires : goal.place-end-requires
-place-end-requires c = search (rules, build_cases)
-
-pub overflow_mul-end : goal.overflow_mul-end
-overflow_mul-end c = search (rules, build_cases)
-
-pub one_inside-requires : goal.one_inside-requires
-one_inside-requires c = search (rules, build_cases)
-
-pub write_inner-requires : goal.write_inner-requires
-write_inner-requires c = search (rules, build_cases)
+pub returns-in_err-ready : goal.returns-in_err-ready
+returns-in_err-ready c =
+    let p = err_from_is_err_and c.from_residual.result c.from_residual.ensures.1 in
+    rw (p.1, p.2) (skip_refused _ _ _ _ _ _ _ c.ready.ensures _ c.in_err-ready.was)
 
 pub returns-then-one_inside : goal.returns-then-one_inside
-returns-then-one_inside c = search (rules, build_cases)
-
-pub write_holding-requires : goal.write_holding-requires
-write_holding-requires c = search (rules, build_cases)
-
-pub returns-in-Refused : goal.returns-in-Refused
-returns-in-Refused c = search (rules, build_cases)
+returns-then-one_inside c =
+    skip_inner _ _ _ _ _ _ _ c.ready.ensures c.in_ok-ready.was _ refl _ _ _ _ c.one_inside.ensures c.if-one_inside.true
+    (inner_written _ _ (ready_end c.args.self c.args.list.now [] [] [] [] _ c.ready.ensures c.in_ok-ready.was _ refl) (ready_room c.args.self c.args.list.now [] [] [] [] _ c.ready.ensures c.in_ok-ready.was _ refl) _ _ _ _ _ _ _ c.encode_list.ensures)
 
 pub returns-else-one_inside : goal.returns-else-one_inside
-returns-else-one_inside c = search (rules, build_cases)
+returns-else-one_inside c = skip_whole _ _ _ _ _ _ _ c.ready.ensures c.in_ok-ready.was _ refl _ _ _ _ c.one_inside.ensures c.if-one_inside.false c.encode_holding.ensures

@@ -1,15 +1,16 @@
-use borrow.Author.Rules.{rules}
-use Rattle.builder.proofs.RestoreReturns.{restore_point_cases}
+use Rattle.std.proofs.Common.{arith, sym, ◌∙◌}
+use Rattle.std.proofs.lemmas.Result.{err_from_is_err_and}
+use Rattle.tree.proofs.Answers.{answer_passed, answer_refused}
+use Rattle.builder.proofs.RestoreReturns.{point_fits_u32, point_taken, point_10}
 use Rattle.builder.proofs.state.Builder.restore_point.Goals as goal
 
-pub disagrees-requires : goal.disagrees-requires
-disagrees-requires c = search (rules, restore_point_cases)
-
-pub returns-then-disagrees : goal.returns-then-disagrees
-returns-then-disagrees c = search (rules, restore_point_cases)
+pub returns-in_err-point_verdict : goal.returns-in_err-point_verdict
+returns-in_err-point_verdict c =
+    let p = err_from_is_err_and c.from_residual.result c.from_residual.ensures.1 in
+    rw (p.1, p.2) (point_10 _ _ _ _ _ (answer_refused _ _ (sym c.point_verdict.ensures ∙ c.in_err-point_verdict.was)))
 
 pub overflow_cast-result : goal.overflow_cast-result
-overflow_cast-result c = search (rules, restore_point_cases)
+overflow_cast-result c = let h = point_fits_u32 _ _ _ _ (answer_passed _ (sym c.point_verdict.ensures ∙ c.in_ok-point_verdict.was)) in omega arith
 
 pub returns : goal.returns
-returns c = search (rules, restore_point_cases)
+returns c = point_taken _ _ _ _ (answer_passed _ (sym c.point_verdict.ensures ∙ c.in_ok-point_verdict.was))

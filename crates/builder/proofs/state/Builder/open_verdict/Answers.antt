@@ -1,0 +1,22 @@
+use Rattle.std.proofs.lemmas.Result.{err_from_is_err_and}
+use Rattle.builder.proofs.Numbers.{numbers_length}
+use Rattle.builder.proofs.StepReturns.{first_refused, first_passed}
+use Rattle.builder.proofs.state.Builder.open_verdict.Goals as goal
+
+pub returns-in_err-agreed : goal.returns-in_err-agreed
+returns-in_err-agreed c =
+    let p = err_from_is_err_and c.from_residual.result c.from_residual.ensures.1 in
+    rw (p.1, p.2) (first_refused _ _ _ c.agreed.ensures _ c.in_err-agreed.was)
+
+pub returns-in_err-rule : goal.returns-in_err-rule
+returns-in_err-rule c =
+    let p = err_from_is_err_and c.from_residual-in_err-rule.result c.from_residual-in_err-rule.ensures.1 in
+    rw (p.1, p.2) (first_passed _ _ _ c.agreed.ensures c.in_ok-agreed.was _ (first_refused _ _ _ (rw c.span_fits.ensures at c.rule.ensures) _ c.in_err-rule.was))
+
+pub returns-in_err-rule-2 : goal.returns-in_err-rule-2
+returns-in_err-rule-2 c =
+    let p = err_from_is_err_and c.from_residual-in_err-rule-2.result c.from_residual-in_err-rule-2.ensures.1 in
+    rw (p.1, p.2) (first_passed _ _ _ c.agreed.ensures c.in_ok-agreed.was _ (first_passed _ _ _ (rw c.span_fits.ensures at c.rule.ensures) c.in_ok-rule.was _ (first_refused _ _ _ (rw (← numbers_length c.args.self.now.opened c.args.self.now.depth) at c.rule-2.ensures) _ c.in_err-rule-2.was)))
+
+pub returns : goal.returns
+returns c = first_passed _ _ _ c.agreed.ensures c.in_ok-agreed.was _ (first_passed _ _ _ (rw c.span_fits.ensures at c.rule.ensures) c.in_ok-rule.was _ (first_passed _ _ _ (rw (← numbers_length c.args.self.now.opened c.args.self.now.depth) at c.rule-2.ensures) c.in_ok-rule-2.was _ c.room.ensures))
