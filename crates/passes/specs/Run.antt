@@ -25,6 +25,14 @@ pub record Ready (t : Runs) (s : Scratch) : Type 0 where
   pub lent : Lent t s
   pub indexed : Indexed t.limits.limit t.parts.now t.symbols.now s.part_slots.now s.symbol_slots.now
 
+-- they are as long as they were
+pub record Kept (s s₀ : Scratch) : Type 0 where
+  pub of_part_slots : length s.part_slots.now ≡ length s₀.part_slots.now
+  pub of_symbol_slots : length s.symbol_slots.now ≡ length s₀.symbol_slots.now
+  pub of_opens : length s.opens.now ≡ length s₀.opens.now
+  pub of_closes : length s.closes.now ≡ length s₀.closes.now
+  pub of_syms : length s.syms.now ≡ length s₀.syms.now
+
 -- trees `from` to `stop` - 1, below the root, lie in the list and have their indices
 pub record Run (M : Mode) (l : List ℕ) (from stop : ℕ) (s : Scratch) : Type 0 where
   pub resolved : Resolved M l from (length s.opens.now) s.opens.now s.closes.now s.syms.now

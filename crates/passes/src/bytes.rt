@@ -5,7 +5,7 @@ ghost use Rattle.format.specs.Word.{put};
 ghost use Rattle.format.specs.WordList.{word_of, raw_from, list_count};
 ghost use Rattle.format.specs.Writer.{raw_of};
 ghost use Rattle.passes.specs.Runs.{mode_by};
-ghost use Rattle.passes.specs.Run.{Ready, Run, Falls, Sized, root_of, Advanced};
+ghost use Rattle.passes.specs.Run.{Ready, Run, Falls, Sized, root_of, Advanced, Kept};
 ghost use Rattle.passes.specs.Tail.{size_from, head_of};
 ghost use Rattle.passes.specs.Passed.{Passed};
 
@@ -110,6 +110,7 @@ fn put_from(
     ensures lower_bound { (n < result) × (result ≤ count) }
     ensures advanced { Advanced (mode_by tables.now) (holding_all l.now) n result out.old out.new }
     ensures still_ready { Ready tables.now scratch.new }
+    ensures kept { Kept scratch.new scratch.old }
 {
     let stop = run_end(n, scratch.opens.len(), count);
     resolve(
@@ -142,7 +143,8 @@ fn put_all(
     requires sized { Sized (mode_by tables.now) l.now 0 work.now }
     requires le_count { (1 ≤ count) × (count ≤ list_count l.now) ×
         (size_from (mode_by tables.now) l.now 0 ≤ length out.old) }
-    ensures { Advanced (mode_by tables.now) (holding_all l.now) 1 count out.old out.new }
+    ensures advanced { Advanced (mode_by tables.now) (holding_all l.now) 1 count out.old out.new }
+    ensures kept { Kept scratch.new scratch.old }
 {
     let mut n: usize = 1;
     while n < count {
@@ -198,7 +200,8 @@ pub fn put_list(
     requires sized { Sized (mode_by tables.now) l.now 0 work.now }
     requires count_bound { (count ≤ list_count l.now) × (size_from (mode_by tables.now) l.now 0
         ≤ length out.old) }
-    ensures { out.new ≡ put out.old 0 (head_of (mode_by tables.now) (holding_all l.now) count) }
+    ensures bytes { out.new ≡ put out.old 0 (head_of (mode_by tables.now) (holding_all l.now) count) }
+    ensures kept { Kept scratch.new scratch.old }
 {
     if count == 0 {
         return;

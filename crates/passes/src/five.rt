@@ -7,7 +7,7 @@ ghost use Rattle.format.specs.Width.{part_size};
 ghost use Rattle.format.specs.WordList.{word_of, raw_from, list_count};
 ghost use Rattle.tree.specs.Refusal.{verdict_answer};
 ghost use Rattle.passes.specs.Runs.{mode_by};
-ghost use Rattle.passes.specs.Run.{Ready, Run, reach, InTables, first_absent};
+ghost use Rattle.passes.specs.Run.{Ready, Run, reach, InTables, first_absent, Kept};
 ghost use Rattle.passes.specs.Tail.{five_in, five_from};
 
 use crate::runs::Runs;
@@ -132,6 +132,7 @@ fn five_next(l: &[u32], tables: &Runs, n: usize, scratch: &mut Scratch) -> Resul
         × (five_from (mode_by tables.now) l.now n ≡ five_from (mode_by tables.now) l.now stop)) }
     ensures err { IfErr result (λ e. Err e ≡ verdict_answer (five_from (mode_by tables.now) l.now n)) }
     ensures still_ready { Ready tables.now scratch.new }
+    ensures kept { Kept scratch.new scratch.old }
 {
     let stop = run_end(n, scratch.opens.len(), l.len() / TREE_WORDS);
     resolve(
@@ -156,6 +157,7 @@ pub fn row_five(l: &[u32], tables: &Runs, scratch: &mut Scratch) -> Result<(), R
     requires ready { Ready tables.now scratch.old }
     ensures value { result ≡ verdict_answer (five_from (mode_by tables.now) l.now 1) }
     ensures still_ready { Ready tables.now scratch.new }
+    ensures kept { Kept scratch.new scratch.old }
 {
     let count = l.len() / TREE_WORDS;
     let mut n: usize = 1;

@@ -3,7 +3,7 @@ ghost use Rattle.std.specs.Prelude.{◌≡◌, ◌+◌, ◌<◌, ◌≤◌, leng
 ghost use Rattle.format.specs.WordList.{word_of, raw_from, list_count};
 ghost use Rattle.format.specs.Writer.{raw_of};
 ghost use Rattle.passes.specs.Runs.{mode_by};
-ghost use Rattle.passes.specs.Run.{Ready, Run, children_in, Spanned, Sized, Beyond};
+ghost use Rattle.passes.specs.Run.{Ready, Run, children_in, Spanned, Sized, Beyond, Kept};
 ghost use Rattle.passes.specs.Passed.{Passed};
 
 use crate::runs::Runs;
@@ -91,6 +91,7 @@ fn size_before(l: &[u32], tables: &Runs, n: usize, work: &mut [u32], scratch: &m
     ensures filled { Sized (mode_by tables.now) l.now result work.new }
     ensures beyond { Beyond l.now work.new work.old }
     ensures still_ready { Ready tables.now scratch.new }
+    ensures kept { Kept scratch.new scratch.old }
 {
     let from = run_start(n, scratch.opens.len());
     resolve(
@@ -117,6 +118,7 @@ fn size_all(l: &[u32], tables: &Runs, work: &mut [u32], scratch: &mut Scratch)
     ensures filled { Sized (mode_by tables.now) l.now 1 work.new }
     ensures beyond { Beyond l.now work.new work.old }
     ensures still_ready { Ready tables.now scratch.new }
+    ensures kept { Kept scratch.new scratch.old }
 {
     let mut n = l.len() / TREE_WORDS;
     while 1 < n {
@@ -142,6 +144,7 @@ pub fn fill_work(l: &[u32], tables: &Runs, work: &mut [u32], scratch: &mut Scrat
     ensures sized { Sized (mode_by tables.now) l.now 0 work.new }
     ensures beyond { Beyond l.now work.new work.old }
     ensures still_ready { Ready tables.now scratch.new }
+    ensures kept { Kept scratch.new scratch.old }
 {
     let count = l.len() / TREE_WORDS;
     work[count] = 0;
