@@ -29,7 +29,6 @@ use Rattle.tree.specs.declared.raw.RawSubtree.{RawSubtree}
 use Rattle.tree.specs.declared.raw.ChildrenBytes.{ChildrenBytes}
 use Rattle.encode.proofs.EncodeUse.{below_root_lem, encoded_contents}
 use Rattle.passes.specs.Tail.{size_from, kids_of, bytes_at, head_of}
-use Rattle.passes.specs.declared.scratch.Scratch.{Scratch}
 use Rattle.passes.specs.Run.{Run, children_in, Spanned, Falls, Sized, root_of, Advanced}
 use Rattle.passes.specs.Passed.{Passed}
 use Rattle.passes.proofs.TailLaw.{size_is, size_falls, size_end, head_size, head_more, raw_fields, raw_indices, root_subtree}
@@ -199,8 +198,8 @@ module _ (M : Mode) (l : List ℕ) (ok : Passed M l) (work : List ℕ) (w : Size
 pub run_ends : (M : Mode) (l : List ℕ) (from stop n : ℕ) (out out' : List ℕ) → Advanced M l from n out out' → n ≤ stop → stop ≤ n → Advanced M l from stop out out'
 run_ends M l from stop n out out' a h k = let e : n ≡ stop = omega arith in rw e at a
 
-pub run_inside : (M : Mode) (l : List ℕ) (from stop n : ℕ) (s : Scratch) → Run M l from stop s → n < stop → n < list_count l
-run_inside M l from stop n s r h = let a = r.last in omega arith
+pub run_inside : (M : Mode) (l : List ℕ) (from stop n : ℕ) (os cs ys : List ℕ) → Run M l from stop os cs ys → n < stop → n < list_count l
+run_inside M l from stop n os cs ys r h = let a = r.last in omega arith
 
 pub still_room : (n : ℕ) (out out' : List ℕ) → n ≤ length out → length out' ≡ length out → n ≤ length out'
 still_room n out out' h e = omega arith

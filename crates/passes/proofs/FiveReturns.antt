@@ -18,7 +18,6 @@ use Rattle.format.proofs.Each.{each_split}
 use Rattle.format.proofs.First.{find_from}
 use Rattle.tree.specs.Refusal.{verdict_answer}
 use Rattle.tree.specs.declared.refusal.Refusal.{Refusal}
-use Rattle.passes.specs.declared.scratch.Scratch.{Scratch}
 use Rattle.passes.specs.Run.{Run, reach, InTables, absent, first_absent}
 use Rattle.passes.specs.Tail.{five_in, five_from}
 use Rattle.passes.proofs.RunLaw.{first_word, run_tree}
@@ -137,12 +136,12 @@ module _ (M : Mode) (l : List ℕ) where
     pub absent_ends : n ≤ stop → stop ≤ n → stop ≡ first_absent M l from stop
     absent_ends g h = let a = absent_stop n stop h in omega arith
 
-    module _ (s : Scratch) (r : Run M l from stop s) (g : from ≤ n) (h : n < stop)
-        (y : Bool) (f : y ≡ indexed_below (reach M.limit (length M.symbols)) (raw_from (get_or s.opens.now (n - from) 0) (get_or s.closes.now (n - from) 0) (get_or s.syms.now (n - from) 0) (word_of l n))) where
+    module _ (os cs ys : List ℕ) (r : Run M l from stop os cs ys) (g : from ≤ n) (h : n < stop)
+        (y : Bool) (f : y ≡ indexed_below (reach M.limit (length M.symbols)) (raw_from (get_or os (n - from) 0) (get_or cs (n - from) 0) (get_or ys (n - from) 0) (word_of l n))) where
       present_is : present M l n ≡ y
       present_is =
           let a = r.below in
-          present_below M l n (omega arith) ∙ ap (indexed_below (reach M.limit (length M.symbols))) (sym (run_tree M l from stop n s r g h)) ∙ sym f
+          present_below M l n (omega arith) ∙ ap (indexed_below (reach M.limit (length M.symbols))) (sym (run_tree M l from stop n os cs ys r g h)) ∙ sym f
 
       pub absent_found : not y ≡ true → n ≡ first_absent M l from stop
       absent_found k = sym (e ∙ absent_here n stop h (present_is ∙ not-true y k))
@@ -150,8 +149,8 @@ module _ (M : Mode) (l : List ℕ) where
       pub absent_goes : not y ≡ false → first_absent M l from stop ≡ first_absent M l (n + 1) stop
       absent_goes k = e ∙ absent_past n stop h (present_is ∙ not-false y k)
 
-pub run_low : (M : Mode) (l : List ℕ) (from stop : ℕ) (s : Scratch) → Run M l from stop s → from ≤ stop
-run_low M l from stop s r = r.some
+pub run_low : (M : Mode) (l : List ℕ) (from stop : ℕ) (os cs ys : List ℕ) → Run M l from stop os cs ys → from ≤ stop
+run_low M l from stop os cs ys r = r.some
 
 pub ruleset absent_cases = (run_low, absent_ends, absent_found, absent_goes)
 

@@ -13,7 +13,6 @@ use Rattle.format.specs.Writer.{raw_of}
 use Rattle.places.specs.Places.{below_root, Roomy, Indexed, Resolved}
 use Rattle.passes.specs.Runs.{mode_by}
 use Rattle.passes.specs.declared.runs.Runs.{Runs}
-use Rattle.passes.specs.declared.scratch.Scratch.{Scratch}
 use Rattle.passes.specs.Run.{Ready, Run}
 
 -- the sort of tree n
@@ -21,13 +20,13 @@ pub first_word : (l : List ℕ) (n : ℕ) → word_of l n 0 ≡ get_or l (tree_s
 first_word l n = ap (λ i. get_or l i 0) (add-zero (tree_size * n))
 
 -- tree n of a run
-pub run_tree : (M : Mode) (l : List ℕ) (from stop n : ℕ) (s : Scratch) → Run M l from stop s → from ≤ n → n < stop
-    → raw_from (get_or s.opens.now (n - from) 0) (get_or s.closes.now (n - from) 0) (get_or s.syms.now (n - from) 0) (word_of l n) ≡ raw_of M l n
-run_tree M l from stop n s r g h =
+pub run_tree : (M : Mode) (l : List ℕ) (from stop n : ℕ) (os cs ys : List ℕ) → Run M l from stop os cs ys → from ≤ n → n < stop
+    → raw_from (get_or os (n - from) 0) (get_or cs (n - from) 0) (get_or ys (n - from) 0) (word_of l n) ≡ raw_of M l n
+run_tree M l from stop n os cs ys r g h =
     let a = r.last in
     let b = r.fits in
     let e : from + (n - from) ≡ n = omega arith in
-    subst (λ m. raw_from (get_or s.opens.now (n - from) 0) (get_or s.closes.now (n - from) 0) (get_or s.syms.now (n - from) 0) (word_of l m) ≡ raw_of M l m) e (r.resolved.at (n - from) (omega arith) (omega arith))
+    subst (λ m. raw_from (get_or os (n - from) 0) (get_or cs (n - from) 0) (get_or ys (n - from) 0) (word_of l m) ≡ raw_of M l m) e (r.resolved.at (n - from) (omega arith) (omega arith))
 
 roomy_kept : (g a b c d c' d' : ℕ) → Roomy g a b c d → c' ≡ c → d' ≡ d → Roomy g a b c' d'
 roomy_kept g a b c d c' d' r e f = rw (e, f) r
@@ -40,22 +39,22 @@ resolved_in t l from m os cs ys h R = record {
       simp z (simp z at (R.at j k i));
 }
 
-module _ (t : Runs) (s : Scratch) (r : Ready t s) where
-  pub ready_roomy : Roomy t.limits.limit (length t.parts.now) (length t.symbols.now) (length s.part_slots.now) (length s.symbol_slots.now)
+module _ (t : Runs) (ps ss os cs ys : List ℕ) (r : Ready t ps ss os cs ys) where
+  pub ready_roomy : Roomy t.limits.limit (length t.parts.now) (length t.symbols.now) (length ps) (length ss)
   ready_roomy = r.lent.roomy
 
-  pub ready_indexed : Indexed t.limits.limit t.parts.now t.symbols.now s.part_slots.now s.symbol_slots.now
+  pub ready_indexed : Indexed t.limits.limit t.parts.now t.symbols.now ps ss
   ready_indexed = r.indexed
 
-  module _ (s' : Scratch) (eo : length s'.opens.now ≡ length s.opens.now) (ec : length s'.closes.now ≡ length s.closes.now) (ey : length s'.syms.now ≡ length s.syms.now) where
-    pub ready_next : Indexed t.limits.limit t.parts.now t.symbols.now s'.part_slots.now s'.symbol_slots.now → length s'.part_slots.now ≡ length s.part_slots.now → length s'.symbol_slots.now ≡ length s.symbol_slots.now → Ready t s'
-    ready_next i ep es =
+  module _ (os' cs' ys' : List ℕ) (eo : length os' ≡ length os) (ec : length cs' ≡ length cs) (ey : length ys' ≡ length ys) where
+    pub ready_next : (ps' ss' : List ℕ) → Indexed t.limits.limit t.parts.now t.symbols.now ps' ss' → length ps' ≡ length ps → length ss' ≡ length ss → Ready t ps' ss' os' cs' ys'
+    ready_next ps' ss' i ep es =
         let a = r.lent.some in
         let b = r.lent.even_closes in
         let c = r.lent.even_syms in
         record {
           lent = record {
-            roomy = roomy_kept t.limits.limit (length t.parts.now) (length t.symbols.now) (length s.part_slots.now) (length s.symbol_slots.now) (length s'.part_slots.now) (length s'.symbol_slots.now) r.lent.roomy ep es;
+            roomy = roomy_kept t.limits.limit (length t.parts.now) (length t.symbols.now) (length ps) (length ss) (length ps') (length ss') r.lent.roomy ep es;
             some = omega arith;
             even_closes = omega arith;
             even_syms = omega arith;
@@ -64,13 +63,13 @@ module _ (t : Runs) (s : Scratch) (r : Ready t s) where
         }
 
     -- the run that was resolved
-    pub run_next : (l : List ℕ) (from stop : ℕ) → Resolved (below_root t.limits.limit t.parts.now t.symbols.now) l from (length s.opens.now) s'.opens.now s'.closes.now s'.syms.now → 1 ≤ from → from < stop → stop ≤ list_count l → stop ≤ from + length s.opens.now
-        → Run (mode_by t) l from stop s'
+    pub run_next : (l : List ℕ) (from stop : ℕ) → Resolved (below_root t.limits.limit t.parts.now t.symbols.now) l from (length os) os' cs' ys' → 1 ≤ from → from < stop → stop ≤ list_count l → stop ≤ from + length os
+        → Run (mode_by t) l from stop os' cs' ys'
     run_next l from stop i h₁ h₂ h₃ h₄ =
         let b = r.lent.even_closes in
         let c = r.lent.even_syms in
         record {
-          resolved = rw eo (resolved_in t l from (length s.opens.now) s'.opens.now s'.closes.now s'.syms.now h₁ i);
+          resolved = rw eo (resolved_in t l from (length os) os' cs' ys' h₁ i);
           below = h₁;
           some = omega arith;
           last = h₃;
@@ -80,8 +79,8 @@ module _ (t : Runs) (s : Scratch) (r : Ready t s) where
         }
 
 -- … and so are those before one of them
-pub run_part : (M : Mode) (l : List ℕ) (s : Scratch) (count : ℕ) → Run M l 1 (list_count l) s → (count ≡ 0 → ⊥) → count ≤ list_count l → Run M l 1 count s
-run_part M l s count r h k =
+pub run_part : (M : Mode) (l os cs ys : List ℕ) (count : ℕ) → Run M l 1 (list_count l) os cs ys → (count ≡ 0 → ⊥) → count ≤ list_count l → Run M l 1 count os cs ys
+run_part M l os cs ys count r h k =
     let a = r.fits in
     record {
       resolved = r.resolved;

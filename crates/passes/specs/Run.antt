@@ -10,38 +10,37 @@ use Rattle.format.specs.Writer.{find, present}
 use Rattle.places.specs.Places.{Roomy, Indexed, Resolved}
 use Rattle.tree.specs.declared.raw.RawSubtree.{RawSubtree}
 use Rattle.passes.specs.declared.runs.Runs.{Runs}
-use Rattle.passes.specs.declared.scratch.Scratch.{Scratch}
 use Rattle.passes.specs.Tail.{size_from, head_of}
 
 -- slots and arrays of indices of the sizes that are asked for
-pub record Lent (t : Runs) (s : Scratch) : Type 0 where
-  pub roomy : Roomy t.limits.limit (length t.parts.now) (length t.symbols.now) (length s.part_slots.now) (length s.symbol_slots.now)
-  pub some : 1 ≤ length s.opens.now
-  pub even_closes : length s.closes.now ≡ length s.opens.now
-  pub even_syms : length s.syms.now ≡ length s.opens.now
+pub record Lent (t : Runs) (part_slots symbol_slots opens closes syms : List ℕ) : Type 0 where
+  pub roomy : Roomy t.limits.limit (length t.parts.now) (length t.symbols.now) (length part_slots) (length symbol_slots)
+  pub some : 1 ≤ length opens
+  pub even_closes : length closes ≡ length opens
+  pub even_syms : length syms ≡ length opens
 
 -- … as `resolve` asks for them
-pub record Ready (t : Runs) (s : Scratch) : Type 0 where
-  pub lent : Lent t s
-  pub indexed : Indexed t.limits.limit t.parts.now t.symbols.now s.part_slots.now s.symbol_slots.now
+pub record Ready (t : Runs) (part_slots symbol_slots opens closes syms : List ℕ) : Type 0 where
+  pub lent : Lent t part_slots symbol_slots opens closes syms
+  pub indexed : Indexed t.limits.limit t.parts.now t.symbols.now part_slots symbol_slots
 
 -- they are as long as they were
-pub record Kept (s s₀ : Scratch) : Type 0 where
-  pub of_part_slots : length s.part_slots.now ≡ length s₀.part_slots.now
-  pub of_symbol_slots : length s.symbol_slots.now ≡ length s₀.symbol_slots.now
-  pub of_opens : length s.opens.now ≡ length s₀.opens.now
-  pub of_closes : length s.closes.now ≡ length s₀.closes.now
-  pub of_syms : length s.syms.now ≡ length s₀.syms.now
+pub record Kept (part_slots symbol_slots opens closes syms part_slots₀ symbol_slots₀ opens₀ closes₀ syms₀ : List ℕ) : Type 0 where
+  pub of_part_slots : length part_slots ≡ length part_slots₀
+  pub of_symbol_slots : length symbol_slots ≡ length symbol_slots₀
+  pub of_opens : length opens ≡ length opens₀
+  pub of_closes : length closes ≡ length closes₀
+  pub of_syms : length syms ≡ length syms₀
 
 -- trees `from` to `stop` - 1, below the root, lie in the list and have their indices
-pub record Run (M : Mode) (l : List ℕ) (from stop : ℕ) (s : Scratch) : Type 0 where
-  pub resolved : Resolved M l from (length s.opens.now) s.opens.now s.closes.now s.syms.now
+pub record Run (M : Mode) (l : List ℕ) (from stop : ℕ) (opens closes syms : List ℕ) : Type 0 where
+  pub resolved : Resolved M l from (length opens) opens closes syms
   pub below : 1 ≤ from
   pub some : from ≤ stop
   pub last : stop ≤ list_count l
-  pub fits : stop ≤ from + length s.opens.now
-  pub even_closes : length s.closes.now ≡ length s.opens.now
-  pub even_syms : length s.syms.now ≡ length s.opens.now
+  pub fits : stop ≤ from + length opens
+  pub even_closes : length closes ≡ length opens
+  pub even_syms : length syms ≡ length opens
 
 -- ---- row 5
 

@@ -11,7 +11,6 @@ ghost use Rattle.passes.specs.Passed.{Passed};
 
 use crate::five::run_end;
 use crate::runs::Runs;
-use crate::scratch::Scratch;
 use crate::sizes::children_of;
 use encode::encode::encode_top_subtree;
 use encode::listed::put_listed;
@@ -67,28 +66,21 @@ fn put_run(
     tables: &Runs,
     from: usize,
     stop: usize,
-    scratch: &Scratch,
+    opens: &[u32],
+    closes: &[u32],
+    syms: &[u32],
     work: &[u32],
     out: &mut [u8],
 )
     requires passed { Passed (mode_by tables.now) l.now }
-    requires run { Run (mode_by tables.now) l.now from stop scratch.now }
+    requires run { Run (mode_by tables.now) l.now from stop opens.now closes.now syms.now }
     requires sized { Sized (mode_by tables.now) l.now 0 work.now }
     requires room { size_from (mode_by tables.now) l.now 0 ≤ length out.old }
     ensures { Advanced (mode_by tables.now) (holding_all l.now) from stop out.old out.new }
 {
     for n in from..stop {
         let j = n - from;
-        put_at(
-            l,
-            tables,
-            n,
-            scratch.opens[j],
-            scratch.closes[j],
-            scratch.syms[j],
-            work,
-            out,
-        );
+        put_at(l, tables, n, opens[j], closes[j], syms[j], work, out);
     }
 }
 
@@ -100,32 +92,37 @@ fn put_from(
     count: usize,
     work: &[u32],
     out: &mut [u8],
-    scratch: &mut Scratch,
+    part_slots: &mut [u32],
+    symbol_slots: &mut [u32],
+    opens: &mut [u32],
+    closes: &mut [u32],
+    syms: &mut [u32],
 ) -> usize
     requires passed { Passed (mode_by tables.now) l.now }
-    requires ready { Ready tables.now scratch.old }
+    requires ready { Ready tables.now part_slots.old symbol_slots.old opens.old closes.old syms.old }
     requires sized { Sized (mode_by tables.now) l.now 0 work.now }
     requires le_n { (1 ≤ n) × (n < count) × (count ≤ list_count l.now) ×
         (size_from (mode_by tables.now) l.now 0 ≤ length out.old) }
     ensures lower_bound { (n < result) × (result ≤ count) }
     ensures advanced { Advanced (mode_by tables.now) (holding_all l.now) n result out.old out.new }
-    ensures still_ready { Ready tables.now scratch.new }
-    ensures kept { Kept scratch.new scratch.old }
+    ensures still_ready { Ready tables.now part_slots.new symbol_slots.new opens.new closes.new syms.new }
+    ensures kept { Kept part_slots.new symbol_slots.new opens.new closes.new syms.new
+        part_slots.old symbol_slots.old opens.old closes.old syms.old }
 {
-    let stop = run_end(n, scratch.opens.len(), count);
+    let stop = run_end(n, opens.len(), count);
     resolve(
         l,
         tables.limits.limit,
         tables.parts,
         tables.symbols,
         n,
-        scratch.part_slots,
-        scratch.symbol_slots,
-        scratch.opens,
-        scratch.closes,
-        scratch.syms,
+        part_slots,
+        symbol_slots,
+        opens,
+        closes,
+        syms,
     );
-    put_run(l, tables, n, stop, scratch, work, out);
+    put_run(l, tables, n, stop, opens, closes, syms, work, out);
     stop
 }
 
@@ -136,19 +133,36 @@ fn put_all(
     count: usize,
     work: &[u32],
     out: &mut [u8],
-    scratch: &mut Scratch,
+    part_slots: &mut [u32],
+    symbol_slots: &mut [u32],
+    opens: &mut [u32],
+    closes: &mut [u32],
+    syms: &mut [u32],
 )
     requires passed { Passed (mode_by tables.now) l.now }
-    requires ready { Ready tables.now scratch.old }
+    requires ready { Ready tables.now part_slots.old symbol_slots.old opens.old closes.old syms.old }
     requires sized { Sized (mode_by tables.now) l.now 0 work.now }
     requires le_count { (1 ≤ count) × (count ≤ list_count l.now) ×
         (size_from (mode_by tables.now) l.now 0 ≤ length out.old) }
     ensures advanced { Advanced (mode_by tables.now) (holding_all l.now) 1 count out.old out.new }
-    ensures kept { Kept scratch.new scratch.old }
+    ensures kept { Kept part_slots.new symbol_slots.new opens.new closes.new syms.new
+        part_slots.old symbol_slots.old opens.old closes.old syms.old }
 {
     let mut n: usize = 1;
     while n < count {
-        n = put_from(l, tables, n, count, work, out, scratch);
+        n = put_from(
+            l,
+            tables,
+            n,
+            count,
+            work,
+            out,
+            part_slots,
+            symbol_slots,
+            opens,
+            closes,
+            syms,
+        );
     }
 }
 
@@ -193,21 +207,37 @@ pub fn put_list(
     count: usize,
     work: &[u32],
     out: &mut [u8],
-    scratch: &mut Scratch,
+    part_slots: &mut [u32],
+    symbol_slots: &mut [u32],
+    opens: &mut [u32],
+    closes: &mut [u32],
+    syms: &mut [u32],
 )
     requires passed { Passed (mode_by tables.now) l.now }
-    requires ready { Ready tables.now scratch.old }
+    requires ready { Ready tables.now part_slots.old symbol_slots.old opens.old closes.old syms.old }
     requires sized { Sized (mode_by tables.now) l.now 0 work.now }
     requires count_bound { (count ≤ list_count l.now) × (size_from (mode_by tables.now) l.now 0
         ≤ length out.old) }
     ensures bytes { out.new ≡ put out.old 0 (head_of (mode_by tables.now) (holding_all l.now) count) }
-    ensures kept { Kept scratch.new scratch.old }
+    ensures kept { Kept part_slots.new symbol_slots.new opens.new closes.new syms.new
+        part_slots.old symbol_slots.old opens.old closes.old syms.old }
 {
     if count == 0 {
         return;
     }
     put_root(l, tables, work, out);
-    put_all(l, tables, count, work, out, scratch);
+    put_all(
+        l,
+        tables,
+        count,
+        work,
+        out,
+        part_slots,
+        symbol_slots,
+        opens,
+        closes,
+        syms,
+    );
 }
 
 // The same where the trees below the root are one run.
@@ -215,12 +245,14 @@ pub fn put_once(
     l: &[u32],
     tables: &Runs,
     count: usize,
-    scratch: &Scratch,
+    opens: &[u32],
+    closes: &[u32],
+    syms: &[u32],
     work: &[u32],
     out: &mut [u8],
 )
     requires passed { Passed (mode_by tables.now) l.now }
-    requires run { Run (mode_by tables.now) l.now 1 (list_count l.now) scratch.now }
+    requires run { Run (mode_by tables.now) l.now 1 (list_count l.now) opens.now closes.now syms.now }
     requires sized { Sized (mode_by tables.now) l.now 0 work.now }
     requires count_bound { (count ≤ list_count l.now) × (size_from (mode_by tables.now) l.now 0
         ≤ length out.old) }
@@ -230,5 +262,5 @@ pub fn put_once(
         return;
     }
     put_root(l, tables, work, out);
-    put_run(l, tables, 1, count, scratch, work, out);
+    put_run(l, tables, 1, count, opens, closes, syms, work, out);
 }

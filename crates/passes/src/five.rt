@@ -11,7 +11,6 @@ ghost use Rattle.passes.specs.Run.{Ready, Run, reach, InTables, first_absent, Ke
 ghost use Rattle.passes.specs.Tail.{five_in, five_from};
 
 use crate::runs::Runs;
-use crate::scratch::Scratch;
 use list::sized::refused;
 use pack::row;
 use places::key::{same_key, words_key};
@@ -76,8 +75,16 @@ fn is_present(
 }
 
 // The first tree of a run with a part or a symbol that has no place, or the end of the run.
-pub fn first_absent(l: &[u32], tables: &Runs, from: usize, stop: usize, scratch: &Scratch) -> usize
-    requires { Run (mode_by tables.now) l.now from stop scratch.now }
+pub fn first_absent(
+    l: &[u32],
+    tables: &Runs,
+    from: usize,
+    stop: usize,
+    opens: &[u32],
+    closes: &[u32],
+    syms: &[u32],
+) -> usize
+    requires { Run (mode_by tables.now) l.now from stop opens.now closes.now syms.now }
     ensures { result ≡ first_absent (mode_by tables.now) l.now from stop }
 {
     for n in from..stop {
@@ -87,9 +94,9 @@ pub fn first_absent(l: &[u32], tables: &Runs, from: usize, stop: usize, scratch:
             n,
             tables.limits.limit,
             tables.symbols.len(),
-            scratch.opens[j],
-            scratch.closes[j],
-            scratch.syms[j],
+            opens[j],
+            closes[j],
+            syms[j],
         ) {
             return n;
         }
@@ -103,13 +110,15 @@ fn run_five(
     tables: &Runs,
     from: usize,
     stop: usize,
-    scratch: &Scratch,
+    opens: &[u32],
+    closes: &[u32],
+    syms: &[u32],
 ) -> Result<(), Refusal>
-    requires run { Run (mode_by tables.now) l.now from stop scratch.now }
+    requires run { Run (mode_by tables.now) l.now from stop opens.now closes.now syms.now }
     requires l_bound { list_count l.now ≤ 1048576 }
     ensures { result ≡ verdict_answer (five_in (mode_by tables.now) l.now from stop) }
 {
-    let found = first_absent(l, tables, from, stop, scratch);
+    let found = first_absent(l, tables, from, stop, opens, closes, syms);
     if found < stop {
         return refused(row::ABSENT, found);
     }
@@ -125,44 +134,63 @@ pub(crate) fn run_end(n: usize, room: usize, count: usize) -> usize
 }
 
 // Row 5 of the run that begins at tree n. Answers where it ends.
-fn five_next(l: &[u32], tables: &Runs, n: usize, scratch: &mut Scratch) -> Result<usize, Refusal>
+fn five_next(
+    l: &[u32],
+    tables: &Runs,
+    n: usize,
+    part_slots: &mut [u32],
+    symbol_slots: &mut [u32],
+    opens: &mut [u32],
+    closes: &mut [u32],
+    syms: &mut [u32],
+) -> Result<usize, Refusal>
     requires le_n { (1 ≤ n) × (n < list_count l.now) × (list_count l.now ≤ 1048576) }
-    requires ready { Ready tables.now scratch.old }
+    requires ready { Ready tables.now part_slots.old symbol_slots.old opens.old closes.old syms.old }
     ensures ok { IfOk result (λ stop. (n < stop) × (stop ≤ list_count l.now)
         × (five_from (mode_by tables.now) l.now n ≡ five_from (mode_by tables.now) l.now stop)) }
     ensures err { IfErr result (λ e. Err e ≡ verdict_answer (five_from (mode_by tables.now) l.now n)) }
-    ensures still_ready { Ready tables.now scratch.new }
-    ensures kept { Kept scratch.new scratch.old }
+    ensures still_ready { Ready tables.now part_slots.new symbol_slots.new opens.new closes.new syms.new }
+    ensures kept { Kept part_slots.new symbol_slots.new opens.new closes.new syms.new
+        part_slots.old symbol_slots.old opens.old closes.old syms.old }
 {
-    let stop = run_end(n, scratch.opens.len(), l.len() / TREE_WORDS);
+    let stop = run_end(n, opens.len(), l.len() / TREE_WORDS);
     resolve(
         l,
         tables.limits.limit,
         tables.parts,
         tables.symbols,
         n,
-        scratch.part_slots,
-        scratch.symbol_slots,
-        scratch.opens,
-        scratch.closes,
-        scratch.syms,
+        part_slots,
+        symbol_slots,
+        opens,
+        closes,
+        syms,
     );
-    run_five(l, tables, n, stop, scratch)?;
+    run_five(l, tables, n, stop, opens, closes, syms)?;
     Ok(stop)
 }
 
 // Row 5 below the root.
-pub fn row_five(l: &[u32], tables: &Runs, scratch: &mut Scratch) -> Result<(), Refusal>
+pub fn row_five(
+    l: &[u32],
+    tables: &Runs,
+    part_slots: &mut [u32],
+    symbol_slots: &mut [u32],
+    opens: &mut [u32],
+    closes: &mut [u32],
+    syms: &mut [u32],
+) -> Result<(), Refusal>
     requires l_bound { list_count l.now ≤ 1048576 }
-    requires ready { Ready tables.now scratch.old }
+    requires ready { Ready tables.now part_slots.old symbol_slots.old opens.old closes.old syms.old }
     ensures value { result ≡ verdict_answer (five_from (mode_by tables.now) l.now 1) }
-    ensures still_ready { Ready tables.now scratch.new }
-    ensures kept { Kept scratch.new scratch.old }
+    ensures still_ready { Ready tables.now part_slots.new symbol_slots.new opens.new closes.new syms.new }
+    ensures kept { Kept part_slots.new symbol_slots.new opens.new closes.new syms.new
+        part_slots.old symbol_slots.old opens.old closes.old syms.old }
 {
     let count = l.len() / TREE_WORDS;
     let mut n: usize = 1;
     while n < count {
-        n = five_next(l, tables, n, scratch)?;
+        n = five_next(l, tables, n, part_slots, symbol_slots, opens, closes, syms)?;
     }
     Ok(())
 }

@@ -4,5 +4,4 @@
 pub mod bytes;
 pub mod five;
 pub mod runs;
-pub mod scratch;
 pub mod sizes;

@@ -7,7 +7,6 @@ ghost use Rattle.passes.specs.Run.{Ready, Run, children_in, Spanned, Sized, Beyo
 ghost use Rattle.passes.specs.Passed.{Passed};
 
 use crate::runs::Runs;
-use crate::scratch::Scratch;
 use encode::listed::listed_size;
 use places::resolve::resolve;
 use tree::raw::{ChildrenBytes, place};
@@ -53,24 +52,25 @@ fn size_at(
 }
 
 // The work words of a run.
-fn size_run(l: &[u32], tables: &Runs, from: usize, stop: usize, scratch: &Scratch, work: &mut [u32])
+fn size_run(
+    l: &[u32],
+    tables: &Runs,
+    from: usize,
+    stop: usize,
+    opens: &[u32],
+    closes: &[u32],
+    syms: &[u32],
+    work: &mut [u32],
+)
     requires passed { Passed (mode_by tables.now) l.now }
-    requires run { Run (mode_by tables.now) l.now from stop scratch.now }
+    requires run { Run (mode_by tables.now) l.now from stop opens.now closes.now syms.now }
     requires sized { Sized (mode_by tables.now) l.now stop work.old }
     ensures filled { Sized (mode_by tables.now) l.now from work.new }
     ensures beyond { Beyond l.now work.new work.old }
 {
     for n in (from..stop).rev() {
         let j = n - from;
-        size_at(
-            l,
-            tables,
-            n,
-            scratch.opens[j],
-            scratch.closes[j],
-            scratch.syms[j],
-            work,
-        );
+        size_at(l, tables, n, opens[j], closes[j], syms[j], work);
     }
 }
 
@@ -83,46 +83,77 @@ fn run_start(n: usize, room: usize) -> usize
 }
 
 // The work words of the run that ends before tree n. Answers where it begins.
-fn size_before(l: &[u32], tables: &Runs, n: usize, work: &mut [u32], scratch: &mut Scratch) -> usize
+fn size_before(
+    l: &[u32],
+    tables: &Runs,
+    n: usize,
+    work: &mut [u32],
+    part_slots: &mut [u32],
+    symbol_slots: &mut [u32],
+    opens: &mut [u32],
+    closes: &mut [u32],
+    syms: &mut [u32],
+) -> usize
     requires passed { Passed (mode_by tables.now) l.now }
-    requires ready { Ready tables.now scratch.old }
+    requires ready { Ready tables.now part_slots.old symbol_slots.old opens.old closes.old syms.old }
     requires lt_n { (1 < n) × (n ≤ list_count l.now) × Sized (mode_by tables.now) l.now n work.old }
     ensures lower_bound { (1 ≤ result) × (result < n) }
     ensures filled { Sized (mode_by tables.now) l.now result work.new }
     ensures beyond { Beyond l.now work.new work.old }
-    ensures still_ready { Ready tables.now scratch.new }
-    ensures kept { Kept scratch.new scratch.old }
+    ensures still_ready { Ready tables.now part_slots.new symbol_slots.new opens.new closes.new syms.new }
+    ensures kept { Kept part_slots.new symbol_slots.new opens.new closes.new syms.new
+        part_slots.old symbol_slots.old opens.old closes.old syms.old }
 {
-    let from = run_start(n, scratch.opens.len());
+    let from = run_start(n, opens.len());
     resolve(
         l,
         tables.limits.limit,
         tables.parts,
         tables.symbols,
         from,
-        scratch.part_slots,
-        scratch.symbol_slots,
-        scratch.opens,
-        scratch.closes,
-        scratch.syms,
+        part_slots,
+        symbol_slots,
+        opens,
+        closes,
+        syms,
     );
-    size_run(l, tables, from, n, scratch, work);
+    size_run(l, tables, from, n, opens, closes, syms, work);
     from
 }
 
 // The work words below the root, from that behind the last tree on.
-fn size_all(l: &[u32], tables: &Runs, work: &mut [u32], scratch: &mut Scratch)
+fn size_all(
+    l: &[u32],
+    tables: &Runs,
+    work: &mut [u32],
+    part_slots: &mut [u32],
+    symbol_slots: &mut [u32],
+    opens: &mut [u32],
+    closes: &mut [u32],
+    syms: &mut [u32],
+)
     requires passed { Passed (mode_by tables.now) l.now }
-    requires ready { Ready tables.now scratch.old }
+    requires ready { Ready tables.now part_slots.old symbol_slots.old opens.old closes.old syms.old }
     requires sized { Sized (mode_by tables.now) l.now (list_count l.now) work.old }
     ensures filled { Sized (mode_by tables.now) l.now 1 work.new }
     ensures beyond { Beyond l.now work.new work.old }
-    ensures still_ready { Ready tables.now scratch.new }
-    ensures kept { Kept scratch.new scratch.old }
+    ensures still_ready { Ready tables.now part_slots.new symbol_slots.new opens.new closes.new syms.new }
+    ensures kept { Kept part_slots.new symbol_slots.new opens.new closes.new syms.new
+        part_slots.old symbol_slots.old opens.old closes.old syms.old }
 {
     let mut n = l.len() / TREE_WORDS;
     while 1 < n {
-        n = size_before(l, tables, n, work, scratch);
+        n = size_before(
+            l,
+            tables,
+            n,
+            work,
+            part_slots,
+            symbol_slots,
+            opens,
+            closes,
+            syms,
+        );
     }
 }
 
@@ -137,31 +168,57 @@ fn size_root(l: &[u32], tables: &Runs, work: &mut [u32])
 }
 
 // All work words: 0 behind the last tree, the total at the root.
-pub fn fill_work(l: &[u32], tables: &Runs, work: &mut [u32], scratch: &mut Scratch)
+pub fn fill_work(
+    l: &[u32],
+    tables: &Runs,
+    work: &mut [u32],
+    part_slots: &mut [u32],
+    symbol_slots: &mut [u32],
+    opens: &mut [u32],
+    closes: &mut [u32],
+    syms: &mut [u32],
+)
     requires passed { Passed (mode_by tables.now) l.now }
-    requires ready { Ready tables.now scratch.old }
+    requires ready { Ready tables.now part_slots.old symbol_slots.old opens.old closes.old syms.old }
     requires l_in_bounds { list_count l.now < length work.old }
     ensures sized { Sized (mode_by tables.now) l.now 0 work.new }
     ensures beyond { Beyond l.now work.new work.old }
-    ensures still_ready { Ready tables.now scratch.new }
-    ensures kept { Kept scratch.new scratch.old }
+    ensures still_ready { Ready tables.now part_slots.new symbol_slots.new opens.new closes.new syms.new }
+    ensures kept { Kept part_slots.new symbol_slots.new opens.new closes.new syms.new
+        part_slots.old symbol_slots.old opens.old closes.old syms.old }
 {
     let count = l.len() / TREE_WORDS;
     work[count] = 0;
-    size_all(l, tables, work, scratch);
+    size_all(
+        l,
+        tables,
+        work,
+        part_slots,
+        symbol_slots,
+        opens,
+        closes,
+        syms,
+    );
     size_root(l, tables, work);
 }
 
 // The same where the trees below the root are one run.
-pub fn fill_once(l: &[u32], tables: &Runs, scratch: &Scratch, work: &mut [u32])
+pub fn fill_once(
+    l: &[u32],
+    tables: &Runs,
+    opens: &[u32],
+    closes: &[u32],
+    syms: &[u32],
+    work: &mut [u32],
+)
     requires passed { Passed (mode_by tables.now) l.now }
-    requires run { Run (mode_by tables.now) l.now 1 (list_count l.now) scratch.now }
+    requires run { Run (mode_by tables.now) l.now 1 (list_count l.now) opens.now closes.now syms.now }
     requires l_in_bounds { list_count l.now < length work.old }
     ensures sized { Sized (mode_by tables.now) l.now 0 work.new }
     ensures beyond { Beyond l.now work.new work.old }
 {
     let count = l.len() / TREE_WORDS;
     work[count] = 0;
-    size_run(l, tables, 1, count, scratch, work);
+    size_run(l, tables, 1, count, opens, closes, syms, work);
     size_root(l, tables, work);
 }

@@ -38,7 +38,6 @@ use Rattle.passes.specs.Runs.{mode_by}
 use Rattle.passes.specs.Tail.{five_in, five_from, rest_of, size_from, head_of}
 use Rattle.passes.specs.Run.{Ready, Sized, Beyond, first_absent}
 use Rattle.passes.specs.declared.runs.Runs.{Runs}
-use Rattle.passes.specs.declared.scratch.Scratch.{Scratch}
 use Rattle.passes.proofs.TailLaw.{work_at, head_whole}
 use Rattle.passes.proofs.HoldLaw.{held_count, hold_size}
 use Rattle.passes.proofs.RunLaw.{run_cases}
@@ -279,9 +278,9 @@ module _ (t : Runs) (l : List ℕ) (w : Ruled (mode_by t) l) where
   pub slots_roomy : (a b : ℕ) → 0 < a → 0 < b → a ≤ 1048576 → b ≤ 1048576 → Roomy t.limits.limit (length t.parts.now) (length t.symbols.now) a b
   slots_roomy a b h₁ h₂ h₃ h₄ = roomy t.limits.limit (length t.parts.now) (length t.symbols.now) a b w.within.below w.within.most_parts w.within.most_symbols h₁ h₂ h₃ h₄
 
-  pub built_ready : (s : Scratch) → Indexed t.limits.limit t.parts.now t.symbols.now s.part_slots.now s.symbol_slots.now → (a b m : ℕ) → 0 < a → 0 < b → a ≤ 1048576 → b ≤ 1048576 → 1 ≤ m
-      → length s.part_slots.now ≡ a → length s.symbol_slots.now ≡ b → length s.opens.now ≡ m → length s.closes.now ≡ m → length s.syms.now ≡ m → Ready t s
-  built_ready s i a b m h₁ h₂ h₃ h₄ h₅ e₁ e₂ e₃ e₄ e₅ =
+  pub built_ready : (ps ss os cs ys : List ℕ) → Indexed t.limits.limit t.parts.now t.symbols.now ps ss → (a b m : ℕ) → 0 < a → 0 < b → a ≤ 1048576 → b ≤ 1048576 → 1 ≤ m
+      → length ps ≡ a → length ss ≡ b → length os ≡ m → length cs ≡ m → length ys ≡ m → Ready t ps ss os cs ys
+  built_ready ps ss os cs ys i a b m h₁ h₂ h₃ h₄ h₅ e₁ e₂ e₃ e₄ e₅ =
       record {
         lent = record {
           roomy = rw (e₁, e₂) (slots_roomy a b h₁ h₂ h₃ h₄);

@@ -12,7 +12,6 @@ use pack::row;
 use passes::bytes::put_once;
 use passes::five::first_absent;
 use passes::runs::Runs;
-use passes::scratch::Scratch;
 use passes::sizes::fill_once;
 use places::resolve::resolve;
 use tree::raw::place;
@@ -23,12 +22,14 @@ use width::TREE_WORDS;
 fn finish_once(
     l: &[u32],
     tables: &Runs,
-    scratch: &Scratch,
+    opens: &[u32],
+    closes: &[u32],
+    syms: &[u32],
     work: &[u32],
     out: &mut [u8],
 ) -> Result<usize, Refusal>
     requires passed { Passed (mode_by tables.now) l.now }
-    requires run { Run (mode_by tables.now) l.now 1 (list_count l.now) scratch.now }
+    requires run { Run (mode_by tables.now) l.now 1 (list_count l.now) opens.now closes.now syms.now }
     requires sized { Sized (mode_by tables.now) l.now 0 work.now }
     ensures { Finished (mode_by tables.now) (holding_all l.now) out.old result out.new }
 {
@@ -36,7 +37,16 @@ fn finish_once(
     if out.len() < total {
         return refuse(row::ROOM);
     }
-    put_once(l, tables, l.len() / TREE_WORDS, scratch, work, out);
+    put_once(
+        l,
+        tables,
+        l.len() / TREE_WORDS,
+        opens,
+        closes,
+        syms,
+        work,
+        out,
+    );
     Ok(total)
 }
 
@@ -44,42 +54,46 @@ fn finish_once(
 fn write_sized(
     l: &[u32],
     tables: &Runs,
-    scratch: &Scratch,
+    opens: &[u32],
+    closes: &[u32],
+    syms: &[u32],
     work: &mut [u32],
     out: &mut [u8],
 ) -> Result<usize, Refusal>
     requires passed { Passed (mode_by tables.now) l.now }
-    requires run { Run (mode_by tables.now) l.now 1 (list_count l.now) scratch.now }
+    requires run { Run (mode_by tables.now) l.now 1 (list_count l.now) opens.now closes.now syms.now }
     ensures { WrittenIn (mode_by tables.now) (holding_all l.now) work.old out.old result work.new out.new }
 {
     if work.len() <= l.len() / TREE_WORDS {
         return refuse(row::ROOM);
     }
-    fill_once(l, tables, scratch, work);
-    finish_once(l, tables, scratch, work, out)
+    fill_once(l, tables, opens, closes, syms, work);
+    finish_once(l, tables, opens, closes, syms, work, out)
 }
 
 // Row 5 below the root, then row 6.
 fn write_run(
     l: &[u32],
     tables: &Runs,
-    scratch: &Scratch,
+    opens: &[u32],
+    closes: &[u32],
+    syms: &[u32],
     work: &mut [u32],
     out: &mut [u8],
 ) -> Result<usize, Refusal>
     requires ruled { Ruled (mode_by tables.now) l.now }
-    requires run { Run (mode_by tables.now) l.now 1 (list_count l.now) scratch.now }
+    requires run { Run (mode_by tables.now) l.now 1 (list_count l.now) opens.now closes.now syms.now }
     ensures { WrittenIn (mode_by tables.now) (holding_all l.now) work.old out.old result work.new out.new }
 {
     let count = l.len() / TREE_WORDS;
-    let found = first_absent(l, tables, 1, count, scratch);
+    let found = first_absent(l, tables, 1, count, opens, closes, syms);
     if found < count {
         return Err(Refusal {
             number: row::ABSENT,
             tree: found as u32,
         });
     }
-    write_sized(l, tables, scratch, work, out)
+    write_sized(l, tables, opens, closes, syms, work, out)
 }
 
 // Finds the indices, then writes.
@@ -88,11 +102,15 @@ pub(crate) fn write_once(
     tables: &Runs,
     work: &mut [u32],
     out: &mut [u8],
-    scratch: &mut Scratch,
+    part_slots: &mut [u32],
+    symbol_slots: &mut [u32],
+    opens: &mut [u32],
+    closes: &mut [u32],
+    syms: &mut [u32],
 ) -> Result<usize, Refusal>
     requires ruled { Ruled (mode_by tables.now) l.now }
-    requires ready { Ready tables.now scratch.old }
-    requires l_in_bounds { list_count l.now ≤ length scratch.old.opens.now }
+    requires ready { Ready tables.now part_slots.old symbol_slots.old opens.old closes.old syms.old }
+    requires l_in_bounds { list_count l.now ≤ length opens.old }
     ensures { WrittenIn (mode_by tables.now) (holding_all l.now) work.old out.old result work.new out.new }
 {
     resolve(
@@ -101,11 +119,11 @@ pub(crate) fn write_once(
         tables.parts,
         tables.symbols,
         1,
-        scratch.part_slots,
-        scratch.symbol_slots,
-        scratch.opens,
-        scratch.closes,
-        scratch.syms,
+        part_slots,
+        symbol_slots,
+        opens,
+        closes,
+        syms,
     );
-    write_run(l, tables, scratch, work, out)
+    write_run(l, tables, opens, closes, syms, work, out)
 }

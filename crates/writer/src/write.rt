@@ -17,7 +17,6 @@ use pack::row;
 use passes::bytes::put_list;
 use passes::five::{root_present, row_five};
 use passes::runs::Runs;
-use passes::scratch::Scratch;
 use passes::sizes::fill_work;
 use places::resolve::build;
 use tree::limits::own_limits;
@@ -32,10 +31,14 @@ fn finish(
     tables: &Runs,
     work: &[u32],
     out: &mut [u8],
-    scratch: &mut Scratch,
+    part_slots: &mut [u32],
+    symbol_slots: &mut [u32],
+    opens: &mut [u32],
+    closes: &mut [u32],
+    syms: &mut [u32],
 ) -> Result<usize, Refusal>
     requires passed { Passed (mode_by tables.now) l.now }
-    requires ready { Ready tables.now scratch.old }
+    requires ready { Ready tables.now part_slots.old symbol_slots.old opens.old closes.old syms.old }
     requires sized { Sized (mode_by tables.now) l.now 0 work.now }
     ensures { Finished (mode_by tables.now) (holding_all l.now) out.old result out.new }
 {
@@ -43,7 +46,18 @@ fn finish(
     if out.len() < total {
         return refuse(row::ROOM);
     }
-    put_list(l, tables, l.len() / TREE_WORDS, work, out, scratch);
+    put_list(
+        l,
+        tables,
+        l.len() / TREE_WORDS,
+        work,
+        out,
+        part_slots,
+        symbol_slots,
+        opens,
+        closes,
+        syms,
+    );
     Ok(total)
 }
 
@@ -53,17 +67,40 @@ fn write_passed(
     tables: &Runs,
     work: &mut [u32],
     out: &mut [u8],
-    scratch: &mut Scratch,
+    part_slots: &mut [u32],
+    symbol_slots: &mut [u32],
+    opens: &mut [u32],
+    closes: &mut [u32],
+    syms: &mut [u32],
 ) -> Result<usize, Refusal>
     requires passed { Passed (mode_by tables.now) l.now }
-    requires ready { Ready tables.now scratch.old }
+    requires ready { Ready tables.now part_slots.old symbol_slots.old opens.old closes.old syms.old }
     ensures { WrittenIn (mode_by tables.now) (holding_all l.now) work.old out.old result work.new out.new }
 {
     if work.len() <= l.len() / TREE_WORDS {
         return refuse(row::ROOM);
     }
-    fill_work(l, tables, work, scratch);
-    finish(l, tables, work, out, scratch)
+    fill_work(
+        l,
+        tables,
+        work,
+        part_slots,
+        symbol_slots,
+        opens,
+        closes,
+        syms,
+    );
+    finish(
+        l,
+        tables,
+        work,
+        out,
+        part_slots,
+        symbol_slots,
+        opens,
+        closes,
+        syms,
+    )
 }
 
 // Row 5 below the root, then row 6.
@@ -72,17 +109,41 @@ fn write_built(
     tables: &Runs,
     work: &mut [u32],
     out: &mut [u8],
-    scratch: &mut Scratch,
+    part_slots: &mut [u32],
+    symbol_slots: &mut [u32],
+    opens: &mut [u32],
+    closes: &mut [u32],
+    syms: &mut [u32],
 ) -> Result<usize, Refusal>
     requires ruled { Ruled (mode_by tables.now) l.now }
-    requires ready { Ready tables.now scratch.old }
+    requires ready { Ready tables.now part_slots.old symbol_slots.old opens.old closes.old syms.old }
     ensures { WrittenIn (mode_by tables.now) (holding_all l.now) work.old out.old result work.new out.new }
 {
-    if l.len() / TREE_WORDS <= scratch.opens.len() {
-        return write_once(l, tables, work, out, scratch);
+    if l.len() / TREE_WORDS <= opens.len() {
+        return write_once(
+            l,
+            tables,
+            work,
+            out,
+            part_slots,
+            symbol_slots,
+            opens,
+            closes,
+            syms,
+        );
     }
-    row_five(l, tables, scratch)?;
-    write_passed(l, tables, work, out, scratch)
+    row_five(l, tables, part_slots, symbol_slots, opens, closes, syms)?;
+    write_passed(
+        l,
+        tables,
+        work,
+        out,
+        part_slots,
+        symbol_slots,
+        opens,
+        closes,
+        syms,
+    )
 }
 
 // Rows 5 and 6 over slots that it builds, with room for the indices of so many trees.
@@ -110,14 +171,17 @@ fn write_with<const PART_SLOTS: usize, const SYMBOL_SLOTS: usize, const TREES: u
         &mut part_slots,
         &mut symbol_slots,
     );
-    let mut scratch = Scratch {
-        part_slots: &mut part_slots,
-        symbol_slots: &mut symbol_slots,
-        opens: &mut opens,
-        closes: &mut closes,
-        syms: &mut syms,
-    };
-    write_built(l, tables, work, out, &mut scratch)
+    write_built(
+        l,
+        tables,
+        work,
+        out,
+        &mut part_slots,
+        &mut symbol_slots,
+        &mut opens,
+        &mut closes,
+        &mut syms,
+    )
 }
 
 // The words of 1,024 parts, of 1,024 trees.

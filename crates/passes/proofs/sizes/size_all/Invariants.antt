@@ -6,7 +6,7 @@ use Rattle.passes.proofs.sizes.size_all.Given as goal
 
 abbrev pub invariant-loop-n : goal.invariant-loop-n
 invariant-loop-n l =
-    (1 ≤ l.n) × (l.n ≤ list_count l.l) × Sized (mode_by l.tables) l.l l.n l.work × Beyond l.l l.work l.initial.work × Ready l.tables l.scratch × Kept l.scratch l.initial.scratch
+    (1 ≤ l.n) × (l.n ≤ list_count l.l) × Sized (mode_by l.tables) l.l l.n l.work × Beyond l.l l.work l.initial.work × Ready l.tables l.part_slots l.symbol_slots l.opens l.closes l.syms × Kept l.part_slots l.symbol_slots l.opens l.closes l.syms l.initial.part_slots l.initial.symbol_slots l.initial.opens l.initial.closes l.initial.syms
 
 abbrev pub decreases-loop-n : goal.decreases-loop-n
 decreases-loop-n l = l.n
