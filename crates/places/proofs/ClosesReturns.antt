@@ -6,9 +6,8 @@ use mathlib.Core.Path.{◌≡◌, refl, sym, ap, subst, ◌∙◌}
 use mathlib.Core.List.{List}
 use native.Mathlib.Omega.{arith}
 use borrow.Author.Tests.{not-false}
-use mathlib.Core.List.{◌++◌}
-use lib.ListN.{length, get_or, take, get_or-append, length-take}
-use Rattle.std.proofs.lemmas.List.{get_or-take}
+use lib.ListN.{length, get_or, set}
+use lib.Seq.{get_or-set_same, get_or-set_other}
 use Rattle.format.specs.Width.{tree_size}
 use Rattle.format.specs.Part.{Part, same_part}
 use Rattle.format.specs.WordList.{word_of, list_count}
@@ -16,7 +15,7 @@ use Rattle.format.specs.Writer.{find}
 use Rattle.format.proofs.PartLaw.{same_part_lem}
 use Rattle.format.proofs.Each.{true_false}
 use Rattle.places.specs.Key.{key_at, key_count, is_key}
-use Rattle.places.specs.Places.{Placed, AsOpen, Tells, Closed}
+use Rattle.places.specs.Places.{Placed, AsOpen, Tells, Closed, Copied}
 use Rattle.places.specs.declared.key.Layout.TheVariants.{Parts, Open, Close, Name}
 use Rattle.slots.proofs.Cases.{eq_or_ne}
 use Rattle.places.proofs.WholeReturns.{open_inside, close_inside}
@@ -90,18 +89,28 @@ module _ (l : List ℕ) (from : ℕ) where
 
 pub ruleset all_as_open_cases = (as_open_none, as_open_more, as_open_all, tells_not)
 
+pub copied_none : (a b : List ℕ) → Copied 0 a b
+copied_none a b = record { at = λ j h. absurd (omega arith) }
+
+pub copied_more : (i m n : ℕ) (a b : List ℕ) → Copied i a b → i < m → m ≤ n → length b ≡ n → Copied (i + 1) a (set b i (get_or a i 0))
+copied_more i m n a b C h k len = record {
+  at = λ j u. ⊎_elim
+      (λ e. subst (λ (x : ℕ). get_or (set b i (get_or a i 0)) x 0 ≡ get_or a x 0) (sym e) (get_or-set_same b i (get_or a i 0) 0 (omega arith)))
+      (λ n. get_or-set_other b i j (get_or a i 0) 0 n ∙ C.at j (omega arith))
+      (eq_or_ne j i);
+}
+
+pub copied_all : (i m : ℕ) (a b : List ℕ) → Copied i a b → m ≤ i → Copied m a b
+copied_all i m a b C h = record { at = λ j u. C.at j (omega arith) }
+
+pub ruleset copy_cases = (copied_none, copied_more, copied_all)
+
 module _ (parts l : List ℕ) (g from m : ℕ) (closes : List ℕ) where
   pub closed_placed : Placed parts Parts g l Close from m closes → Closed parts g l from m closes
   closed_placed P = record { at = λ j u v. P.done j u }
 
-  pub closed_copied : (b : Bool) → Tells b l from m → b ≡ true → (opens : List ℕ) → Placed parts Parts g l Open from m opens → m ≤ length opens → (rest : List ℕ) → closes ≡ take m opens ++ rest
-      → Closed parts g l from m closes
-  closed_copied b T h opens P k rest C =
-      record { at = λ j u v. copied j u ∙ P.done j u ∙ ap (λ (x : Part). find (is_key (key_at parts Parts) x) g 0) (sym ((T.yes h).at j u v)) }
-    where
-      copied : (j : ℕ) → j < m → get_or closes j 0 ≡ get_or opens j 0
-      copied j u =
-          let s : j < length (take m opens) = simp length-take (omega arith) in
-          rw C (get_or-append (take m opens) rest 0 j s ∙ get_or-take m opens j 0 u)
+  pub closed_copied : (b : Bool) → Tells b l from m → b ≡ true → (opens : List ℕ) → Placed parts Parts g l Open from m opens → Copied m opens closes → Closed parts g l from m closes
+  closed_copied b T h opens P C =
+      record { at = λ j u v. C.at j u ∙ P.done j u ∙ ap (λ (x : Part). find (is_key (key_at parts Parts) x) g 0) (sym ((T.yes h).at j u v)) }
 
 pub ruleset closes_cases = (closes_inside, closed_placed, closed_copied)

@@ -69,6 +69,10 @@ pub record Tells (r : Bool) (l : List ℕ) (from m : ℕ) : Type 0 where
 pub record Closed (parts : List ℕ) (g : ℕ) (l : List ℕ) (from m : ℕ) (closes : List ℕ) : Type 0 where
   pub at : (j : ℕ) → j < m → 2 < word_of l (from + j) 0 → get_or closes j 0 ≡ find (is_key (key_at parts Parts) (key_at l Close (from + j))) g 0
 
+-- the first m numbers are the same
+pub record Copied (m : ℕ) (a b : List ℕ) : Type 0 where
+  pub at : (j : ℕ) → j < m → get_or b j 0 ≡ get_or a j 0
+
 -- the first m trees of the run
 pub record Streamed (limit : ℕ) (parts symbols l : List ℕ) (from m : ℕ) (opens closes syms : List ℕ) : Type 0 where
   pub opening : Placed parts Parts limit l Open from m opens
