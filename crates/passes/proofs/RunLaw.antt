@@ -1,6 +1,6 @@
 -- Runs of trees: what a chunk of indices says of its trees, and slots and arrays that keep their lengths.
 use Prim.Native.Nat.{ℕ, ◌+◌, ◌*◌, ◌-◌, ◌≤◌, ◌<◌}
-use mathlib.Core.Path.{◌≡◌, ap, subst}
+use mathlib.Core.Path.{◌≡◌, refl, ap, subst, ◌∙◌}
 use mathlib.Core.List.{List}
 use native.Mathlib.Omega.{arith}
 use native.Mathlib.Nat.{add-zero}
@@ -13,7 +13,7 @@ use Rattle.format.specs.Writer.{raw_of}
 use Rattle.places.specs.Places.{below_root, Roomy, Indexed, Resolved}
 use Rattle.passes.specs.Runs.{mode_by}
 use Rattle.passes.specs.declared.runs.Runs.{Runs}
-use Rattle.passes.specs.Run.{Ready, Run}
+use Rattle.passes.specs.Run.{Lent, Ready, Kept, Run}
 
 -- the sort of tree n
 pub first_word : (l : List ℕ) (n : ℕ) → word_of l n 0 ≡ get_or l (tree_size * n) 0
@@ -77,6 +77,38 @@ module _ (t : Runs) (ps ss os cs ys : List ℕ) (r : Ready t ps ss os cs ys) whe
           even_closes = omega arith;
           even_syms = omega arith;
         }
+
+module _ (t : Runs) (ps ss os cs ys : List ℕ) (r : Lent t ps ss os cs ys) where
+  pub lent_roomy : Roomy t.limits.limit (length t.parts.now) (length t.symbols.now) (length ps) (length ss)
+  lent_roomy = r.roomy
+
+  pub lent_ready : (ps' ss' : List ℕ) → Indexed t.limits.limit t.parts.now t.symbols.now ps' ss' → length ps' ≡ length ps → length ss' ≡ length ss → Ready t ps' ss' os cs ys
+  lent_ready ps' ss' i ep es =
+      record {
+        lent = record {
+          roomy = roomy_kept t.limits.limit (length t.parts.now) (length t.symbols.now) (length ps) (length ss) (length ps') (length ss') r.roomy ep es;
+          some = r.some;
+          even_closes = r.even_closes;
+          even_syms = r.even_syms;
+        };
+        indexed = i;
+      }
+
+module _ (ps ss os cs ys ps₀ ss₀ os₀ cs₀ ys₀ : List ℕ) where
+  pub kept_next : Kept ps ss os cs ys ps₀ ss₀ os₀ cs₀ ys₀ → (ps' ss' os' cs' ys' : List ℕ)
+      → length ps' ≡ length ps → length ss' ≡ length ss → length os' ≡ length os → length cs' ≡ length cs → length ys' ≡ length ys
+      → Kept ps' ss' os' cs' ys' ps₀ ss₀ os₀ cs₀ ys₀
+  kept_next k ps' ss' os' cs' ys' a b c d e =
+      record {
+        of_part_slots = a ∙ k.of_part_slots;
+        of_symbol_slots = b ∙ k.of_symbol_slots;
+        of_opens = c ∙ k.of_opens;
+        of_closes = d ∙ k.of_closes;
+        of_syms = e ∙ k.of_syms;
+      }
+
+pub kept_none : (ps ss os cs ys : List ℕ) → Kept ps ss os cs ys ps ss os cs ys
+kept_none ps ss os cs ys = record { of_part_slots = refl; of_symbol_slots = refl; of_opens = refl; of_closes = refl; of_syms = refl }
 
 -- … and so are those before one of them
 pub run_part : (M : Mode) (l os cs ys : List ℕ) (count : ℕ) → Run M l 1 (list_count l) os cs ys → (count ≡ 0 → ⊥) → count ≤ list_count l → Run M l 1 count os cs ys
