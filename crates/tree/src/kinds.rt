@@ -1,12 +1,11 @@
 // The numbers of the list words as the source's kinds, or row 2 where they are none, and back.
-#![tactic(auto, unfolding(crate::specs::Types::spacing_answer, crate::specs::Types::is_raw_answer, crate::specs::Types::delimiter_answer, crate::specs::Types::lit_kind_answer, crate::specs::Types::lit_kind_word))]
+#![tactic(auto, unfolding(crate::specs::Types::spacing_of, crate::specs::Types::is_raw_of, crate::specs::Types::delimiter_of, crate::specs::Types::lit_kind_of, crate::specs::Types::spacing_answer, crate::specs::Types::is_raw_answer, crate::specs::Types::delimiter_answer, crate::specs::Types::lit_kind_answer, crate::specs::Types::lit_kind_word))]
 
 ghost use Rattle.std.specs.Prelude.{◌≡◌, ◌+◌, ◌*◌, ◌<◌};
 ghost use Rattle.tree.specs.Types.{spacing_answer, is_raw_answer, delimiter_answer, lit_kind_answer};
 ghost use Rattle.tree.specs.Types.{lit_kind_word};
 
 use crate::fields::raw_count_fits;
-use crate::ranged::{delimiter_of, is_raw_of, lit_kind_of, spacing_of};
 use crate::types::{DelimiterKind, IdentIsRaw, LitKind, Spacing};
 use pack::row;
 use pack::row::Row;
@@ -17,10 +16,11 @@ impl TryFrom<u32> for Spacing {
     ghost try_from_gives = { λ x r. r ≡ spacing_answer x };
 
     fn try_from(x: u32) -> Result<Self, Row> {
-        if x <= 2 {
-            Ok(spacing_of(x))
-        } else {
-            Err(row::FIELD)
+        match x {
+            0 => Ok(Spacing::Alone),
+            1 => Ok(Spacing::Joint),
+            2 => Ok(Spacing::JointHidden),
+            _ => Err(row::FIELD),
         }
     }
 }
@@ -31,10 +31,10 @@ impl TryFrom<u32> for IdentIsRaw {
     ghost try_from_gives = { λ x r. r ≡ is_raw_answer x };
 
     fn try_from(x: u32) -> Result<Self, Row> {
-        if x <= 1 {
-            Ok(is_raw_of(x))
-        } else {
-            Err(row::FIELD)
+        match x {
+            0 => Ok(IdentIsRaw::No),
+            1 => Ok(IdentIsRaw::Yes),
+            _ => Err(row::FIELD),
         }
     }
 }
@@ -45,10 +45,12 @@ impl TryFrom<u32> for DelimiterKind {
     ghost try_from_gives = { λ d r. r ≡ delimiter_answer d };
 
     fn try_from(d: u32) -> Result<Self, Row> {
-        if d <= 3 {
-            Ok(delimiter_of(d))
-        } else {
-            Err(row::FIELD)
+        match d {
+            0 => Ok(DelimiterKind::Parenthesis),
+            1 => Ok(DelimiterKind::Brace),
+            2 => Ok(DelimiterKind::Bracket),
+            3 => Ok(DelimiterKind::Invisible),
+            _ => Err(row::FIELD),
         }
     }
 }
@@ -57,10 +59,22 @@ impl TryFrom<u32> for DelimiterKind {
 pub fn lit_kind_from(kind: u32, raw_count: u32) -> Result<LitKind, Row>
     ensures { result ≡ lit_kind_answer kind raw_count }
 {
-    if kind <= 10 && raw_count_fits(kind, raw_count) {
-        Ok(lit_kind_of(kind, raw_count))
-    } else {
-        Err(row::FIELD)
+    if !raw_count_fits(kind, raw_count) {
+        return Err(row::FIELD);
+    }
+    match kind {
+        0 => Ok(LitKind::Byte),
+        1 => Ok(LitKind::Char),
+        2 => Ok(LitKind::Integer),
+        3 => Ok(LitKind::Float),
+        4 => Ok(LitKind::Str),
+        5 => Ok(LitKind::StrRaw(raw_count)),
+        6 => Ok(LitKind::ByteStr),
+        7 => Ok(LitKind::ByteStrRaw(raw_count)),
+        8 => Ok(LitKind::CStr),
+        9 => Ok(LitKind::CStrRaw(raw_count)),
+        10 => Ok(LitKind::Err),
+        _ => Err(row::FIELD),
     }
 }
 

@@ -9,13 +9,15 @@ ghost use Rattle.tree.specs.declared.types.TokenTree.TheVariants as trees;
 ghost use Rattle.tree.specs.Words.{tree_from, words_answer, raw_words_answer};
 
 use crate::fields::tree_fits;
-use crate::kinds::lit_kind_word;
+use crate::kinds::{lit_kind_from, lit_kind_word};
 use crate::listed::{ident_at, literal_at, punct_at, sort_at, subtree_at};
-use crate::ranged::{delimiter_of, is_raw_of, lit_kind_of, spacing_of};
 use crate::raw::{Descendants, RawTree};
 use crate::sort;
 use crate::sort::Sort;
-use crate::types::{Ident, Leaf, LitKind, Literal, Punct, Span, Subtree, TokenTree};
+use crate::types::{
+    DelimiterKind, Ident, IdentIsRaw, Leaf, LitKind, Literal, Punct, Spacing, Span, Subtree,
+    TokenTree,
+};
 use pack::row;
 use pack::row::Row;
 use width::{CLOSE_AT, OPEN_AT, PART_WORDS, SPAN_WORDS, TREE_WORDS};
@@ -96,37 +98,38 @@ pub fn raw_from_words(
 
 // ---- the source's tree, whose entries are the words themselves
 
+// Row 2 was silent, so each number is that of a kind.
 #[tactic(auto, unfolding(crate::specs::Words::tree_from))]
-fn whole_tree(l: &[u32], n: usize) -> TokenTree
+fn whole_tree(l: &[u32], n: usize) -> Result<TokenTree, Row>
     requires { (n < list_count l.now) × (word_fields (word_of l.now n) ≡ true) }
-    ensures { result ≡ tree_from (word_of l.now n) }
+    ensures { result ≡ Ok (tree_from (word_of l.now n)) }
 {
     let first = l[TREE_WORDS * n + 1];
     let second = l[TREE_WORDS * n + 2];
     let span = whole_span(l, n, OPEN_AT);
     match sort_at(l, n) {
-        sort::PUNCT => TokenTree::Leaf(Leaf::Punct(Punct {
+        sort::PUNCT => Ok(TokenTree::Leaf(Leaf::Punct(Punct {
             char: first,
-            spacing: spacing_of(second),
+            spacing: Spacing::try_from(second)?,
             span,
-        })),
-        sort::IDENT => TokenTree::Leaf(Leaf::Ident(Ident {
+        }))),
+        sort::IDENT => Ok(TokenTree::Leaf(Leaf::Ident(Ident {
             sym: first,
             span,
-            is_raw: is_raw_of(second),
-        })),
-        sort::LITERAL => TokenTree::Leaf(Leaf::Literal(Literal {
+            is_raw: IdentIsRaw::try_from(second)?,
+        }))),
+        sort::LITERAL => Ok(TokenTree::Leaf(Leaf::Literal(Literal {
             text_and_suffix: first,
             span,
-            kind: lit_kind_of(second % 256, second / 256 % 256),
+            kind: lit_kind_from(second % 256, second / 256 % 256)?,
             suffix_len: second / 65536,
-        })),
-        _ => TokenTree::Subtree(Subtree {
+        }))),
+        _ => Ok(TokenTree::Subtree(Subtree {
             opening: span,
             closing: whole_span(l, n, CLOSE_AT),
             len: Descendants(first),
-            kind: delimiter_of(second),
-        }),
+            kind: DelimiterKind::try_from(second)?,
+        })),
     }
 }
 
@@ -136,7 +139,7 @@ pub fn tree_from_words(words: &[u32; TREE_WORDS]) -> Result<TokenTree, Row>
     ensures { result ≡ words_answer (word_of words.now 0) }
 {
     if word_fields(words, 0) {
-        Ok(whole_tree(words, 0))
+        whole_tree(words, 0)
     } else {
         Err(row::FIELD)
     }
