@@ -5,7 +5,7 @@ ghost use Rattle.format.specs.Cursor.{bump, end, bump_or_end};
 ghost use Rattle.cursor.specs.Look.{TellsOf, PeeksOf};
 ghost use Rattle.cursor.specs.Moves.{at_of, fresh_cursor, Stepped};
 
-use crate::lent::{Moved, bump, bump_or_end, end};
+use crate::lent::{bump, bump_or_end, end};
 use crate::look::{Ahead, peek_two_leaves, token_tree};
 use crate::plan::Reply;
 use crate::state::At;
@@ -54,80 +54,91 @@ impl Cursor {
         }
     }
 
-    // At where a call has moved to.
-    fn moved(self, moved: Moved) -> Next
-        ensures { result ≡ record {
-          answer = moved.answer;
-          cursor = record {
-            place = moved.at.place;
-            number = moved.at.number;
-            depth = moved.at.depth;
-            numbers = self.numbers;
-            counts = self.counts;
-            places = self.places;
-          };
-        } }
+    pub fn bump(self, b: &[u8], trees: u32, parts: &[u32], symbols: &[u32]) -> Next
+        ensures { Stepped b.now trees parts.now symbols.now bump self result }
     {
+        let mut numbers = self.numbers;
+        let mut counts = self.counts;
+        let mut places = self.places;
+        let moved = bump(
+            b,
+            trees,
+            parts,
+            symbols,
+            self.at(),
+            &mut numbers,
+            &mut counts,
+            &mut places,
+        );
         Next {
             answer: moved.answer,
             cursor: Cursor {
                 place: moved.at.place,
                 number: moved.at.number,
                 depth: moved.at.depth,
-                ..self
+                numbers,
+                counts,
+                places,
             },
         }
     }
 
-    pub fn bump(mut self, b: &[u8], trees: u32, parts: &[u32], symbols: &[u32]) -> Next
-        ensures { Stepped b.now trees parts.now symbols.now bump self result }
-    {
-        let at = self.at();
-        let moved = bump(
-            b,
-            trees,
-            parts,
-            symbols,
-            at,
-            &mut self.numbers,
-            &mut self.counts,
-            &mut self.places,
-        );
-        self.moved(moved)
-    }
-
-    pub fn end(mut self, b: &[u8], trees: u32, parts: &[u32], symbols: &[u32]) -> Next
+    pub fn end(self, b: &[u8], trees: u32, parts: &[u32], symbols: &[u32]) -> Next
         ensures { Stepped b.now trees parts.now symbols.now end self result }
     {
-        let at = self.at();
+        let mut numbers = self.numbers;
+        let mut counts = self.counts;
+        let mut places = self.places;
         let moved = end(
             b,
             trees,
             parts,
             symbols,
-            at,
-            &mut self.numbers,
-            &mut self.counts,
-            &mut self.places,
+            self.at(),
+            &mut numbers,
+            &mut counts,
+            &mut places,
         );
-        self.moved(moved)
+        Next {
+            answer: moved.answer,
+            cursor: Cursor {
+                place: moved.at.place,
+                number: moved.at.number,
+                depth: moved.at.depth,
+                numbers,
+                counts,
+                places,
+            },
+        }
     }
 
-    pub fn bump_or_end(mut self, b: &[u8], trees: u32, parts: &[u32], symbols: &[u32]) -> Next
+    pub fn bump_or_end(self, b: &[u8], trees: u32, parts: &[u32], symbols: &[u32]) -> Next
         ensures { Stepped b.now trees parts.now symbols.now bump_or_end self result }
     {
-        let at = self.at();
+        let mut numbers = self.numbers;
+        let mut counts = self.counts;
+        let mut places = self.places;
         let moved = bump_or_end(
             b,
             trees,
             parts,
             symbols,
-            at,
-            &mut self.numbers,
-            &mut self.counts,
-            &mut self.places,
+            self.at(),
+            &mut numbers,
+            &mut counts,
+            &mut places,
         );
-        self.moved(moved)
+        Next {
+            answer: moved.answer,
+            cursor: Cursor {
+                place: moved.at.place,
+                number: moved.at.number,
+                depth: moved.at.depth,
+                numbers,
+                counts,
+                places,
+            },
+        }
     }
 
     pub fn token_tree(

@@ -63,13 +63,16 @@ pub extern "C" fn tt_cursor_by_value(
     if next.len() < 3 || words.len() < TWO_TREES {
         return TOO_SHORT;
     }
+    let opened = *numbers;
+    let held = *counts;
+    let begun = *places;
     let cursor = Cursor {
         place,
         number,
         depth,
-        numbers: *numbers,
-        counts: *counts,
-        places: *places,
+        numbers: opened,
+        counts: held,
+        places: begun,
     };
     let at = At {
         place,
@@ -81,6 +84,7 @@ pub extern "C" fn tt_cursor_by_value(
         return store_leaves(two, at, next, words);
     }
     let moved = value_call(b, trees, parts, symbols, call, cursor);
+    let answer = moved.answer;
     let then = moved.cursor;
     let opened = then.numbers;
     let held = then.counts;
@@ -93,5 +97,5 @@ pub extern "C" fn tt_cursor_by_value(
         number: then.number,
         depth: then.depth,
     };
-    store_answer(moved.answer, after, next, words)
+    store_answer(answer, after, next, words)
 }
