@@ -47,6 +47,7 @@ fn spread_one(p: &Portion, i: usize, out: &mut [u32])
 }
 
 // The keys of a portion, behind those that have their places.
+#[inline(always)]
 #[tactic(auto, using(crate::proofs::StreamReturns::spread_begin))]
 fn place_portion(p: Portion, out: &mut [u32])
     requires begun { midway p p.first 0 out.old }
@@ -69,7 +70,9 @@ fn next_keys(left: usize, slots: usize) -> usize
     left.min(portion_of(portion_of(slots)))
 }
 
-// The first places among the entries of the keys of m trees.
+// The first places among the entries of the keys of m trees. Compiled into its callers, which know both layouts: so
+// they are not asked for at each entry.
+#[inline(always)]
 #[tactic(auto, using(crate::proofs::StreamReturns::run_cases))]
 pub(crate) fn place_run<'a>(
     table: Table<'a>,
