@@ -101,7 +101,7 @@ impl Builder {
         ensures { result ≡ point_answer
             (point_verdict list.now (seen self)) (restore_point list.now (seen self)) }
     {
-        self.point_verdict(list)?;
+        rule(!self.disagrees(list), row::STATE, 0)?;
         Ok(Point {
             trees: self.count,
             opened: self.depth as u32,
