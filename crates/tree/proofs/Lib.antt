@@ -1,4 +1,5 @@
 pub mod Answers
+pub mod KindsUse
 pub mod StoreReturns
 pub mod RawAgain
 pub mod OwnMode

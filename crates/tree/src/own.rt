@@ -8,7 +8,6 @@ use crate::tables::Tables;
 use width::PART_WORDS;
 
 // Row 1 was asked.
-#[tactic(auto, using(crate::proofs::OwnMode::own_whole, crate::proofs::OwnMode::own_mode_lem))]
 pub fn own_tables<'a>(parts: &'a [u32], symbols: &'a [u32]) -> Tables<'a>
     requires { (own_mode parts.now symbols.now).sized ≡ true }
     ensures { mode_in result ≡ own_mode parts.now symbols.now }
